@@ -1,0 +1,12 @@
+pub mod Keys
+pub mod Numbers
+pub mod Headers
+pub mod Faults
+pub mod Codecs
+pub mod Sums
+pub mod Monotonic
+pub mod Ranges
+pub mod Void
+pub mod Tables
+pub mod Reading
+pub mod Worked
