@@ -87,15 +87,16 @@ module _ {V : Type 0} (opens : List ℕ → Opened) (steps : Cursor → List ℕ
     pub values : (i : ℕ) → i < length vs → valueAt steps cursor part i ≡ nth vs i
 
 -- The laws of a codec, for the lists that it can hold.
-module _ {V : Type 0} (rule : List V → V → Bool) (bytes : List V → List ℕ) (opens : List ℕ → Opened) (steps : Cursor → List ℕ → Stepped V) where
-  -- the bytes of an allowed list, followed by any bytes, read as that list
-  abbrev pub ReadsBack : Type 0
-  ReadsBack = (vs : List V) (rest : List ℕ) → Allowed rule vs → length vs ≤ most → Reads opens steps (bytes vs ++ rest) vs (length (bytes vs))
 
-  -- n values take at most 10 * (n + 2) bytes
-  abbrev pub Short : Type 0
-  Short = (vs : List V) → Allowed rule vs → length vs ≤ most → length (bytes vs) ≤ 10 * (length vs + 2)
+-- the bytes of an allowed list, followed by any bytes, read as that list
+abbrev pub ReadsBack : {V : Type 0} → (List V → V → Bool) → (List V → List ℕ) → (List ℕ → Opened) → (Cursor → List ℕ → Stepped V) → Type 0
+ReadsBack {V} rule bytes opens steps =
+    (vs : List V) (rest : List ℕ) → Allowed rule vs → length vs ≤ most → Reads opens steps (bytes vs ++ rest) vs (length (bytes vs))
 
-  -- of any part, what belongs to the values lies within it
-  abbrev pub Within : Type 0
-  Within = (part : List ℕ) (cursor : Cursor) (consumed : ℕ) → opens part ≡ Ok (cursor, consumed) → consumed ≤ length part
+-- n values take at most 10 * (n + 2) bytes
+abbrev pub Short : {V : Type 0} → (List V → V → Bool) → (List V → List ℕ) → Type 0
+Short {V} rule bytes = (vs : List V) → Allowed rule vs → length vs ≤ most → length (bytes vs) ≤ 10 * (length vs + 2)
+
+-- of any part, what belongs to the values lies within it
+abbrev pub Within : (List ℕ → Opened) → Type 0
+Within opens = (part : List ℕ) (cursor : Cursor) (consumed : ℕ) → opens part ≡ Ok (cursor, consumed) → consumed ≤ length part

@@ -7,6 +7,7 @@ pub mod Sums
 pub mod Monotonic
 pub mod Ranges
 pub mod Void
+pub mod Buffers
 pub mod Tables
 pub mod Reading
 pub mod Worked

@@ -3,14 +3,12 @@ use mathlib.Core.Bool.{Bool, _&&_}
 use mathlib.Core.List.{List, [], _∷_}
 use Prim.Native.Nat.{ℕ, _^_}
 use lib.Dec.{ltb, leb as atMost}
-use Rattle.std.specs.declared.option.Option.{Option}
 use Rattle.std.specs.declared.option.Option.the-variants.{Some, None}
-use Rattle.std.specs.declared.result.Result.{Result}
-use Rattle.std.specs.declared.result.Result.the-variants.{Ok, Err}
+use Rattle.std.specs.declared.result.Result.the-variants.{Err}
 use Rattle.format.specs.declared.Cursor.{Cursor}
 use Rattle.format.specs.Numbers.{Number, readLeb}
-use Rattle.format.specs.Codecs.{Flaw, noNumber, Opened, Stepped}
-use Rattle.format.specs.Sums.{counted, rise, whole}
+use Rattle.format.specs.Codecs.{noNumber, Opened, Stepped}
+use Rattle.format.specs.Sums.{counted, rise, whole, valued}
 
 -- the last of some numbers that come after another
 abbrev pub lastOr : ℕ → List ℕ → ℕ
@@ -30,11 +28,6 @@ u64Counted part (Some p) = whole (record { next = p .0; last = 0; left = p .1 })
 abbrev pub u64Opens : List ℕ → Opened
 u64Opens part = u64Counted part (readLeb part)
 
-abbrev pub u64Given : Result (Option Cursor) Flaw → Stepped ℕ
-u64Given (Ok (Some d)) = Ok (Some (d .last, d))
-u64Given (Ok None) = Ok None
-u64Given (Err f) = Err f
-
 -- each value is the sum of the rises up to it
 abbrev pub u64Steps : Cursor → List ℕ → Stepped ℕ
-u64Steps c part = u64Given (rise c part)
+u64Steps c part = valued (λ d. d .last) (rise c part)

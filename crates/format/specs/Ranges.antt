@@ -4,15 +4,13 @@ use mathlib.Core.List.{List, [], _∷_}
 use Prim.Native.Nat.{ℕ, _+_, _-_, _^_}
 use lib.Dec.{ltb, eqb, leb as atMost}
 use lib.ListN.{drop}
-use Rattle.std.specs.declared.option.Option.{Option}
 use Rattle.std.specs.declared.option.Option.the-variants.{Some, None}
-use Rattle.std.specs.declared.result.Result.{Result}
 use Rattle.std.specs.declared.result.Result.the-variants.{Ok, Err}
 use Rattle.format.specs.declared.Cursor.{Cursor}
 use Rattle.format.specs.declared.Range.{Range}
 use Rattle.format.specs.Numbers.{Number, readLeb}
-use Rattle.format.specs.Codecs.{Flaw, noNumber, Opened, Stepped}
-use Rattle.format.specs.Sums.{counted, rise, whole}
+use Rattle.format.specs.Codecs.{noNumber, Opened, Stepped}
+use Rattle.format.specs.Sums.{counted, rise, whole, valued}
 
 -- where the last of some ranges ends, which come after one that ends at a place
 abbrev pub endOr : ℕ → List Range → ℕ
@@ -54,11 +52,15 @@ rangeCounted part (Some p) =
 abbrev pub rangeOpens : List ℕ → Opened
 rangeOpens part = rangeCounted part (readLeb part)
 
-abbrev pub rangeGiven : Cursor → Result (Option Cursor) Flaw → Stepped Range
-rangeGiven c (Ok (Some d)) = Ok (Some (record { start = c .last; end = d .last }, d))
-rangeGiven c (Ok None) = Ok None
-rangeGiven c (Err f) = Err f
-
 -- each range goes from one edge to the next
 abbrev pub rangeSteps : Cursor → List ℕ → Stepped Range
-rangeSteps c part = rangeGiven c (rise c part)
+rangeSteps c part = valued (λ d. record { start = c .last; end = d .last }) (rise c part)
+
+-- the ranges between edges
+abbrev pub rangesFrom : ℕ → List ℕ → List Range
+rangesFrom start [] = []
+rangesFrom start (e ∷ es) = record { start = start; end = e } ∷ rangesFrom e es
+
+abbrev pub rangesOf : List ℕ → List Range
+rangesOf [] = []
+rangesOf (e ∷ es) = rangesFrom e es

@@ -1,5 +1,5 @@
 -- Rising numbers as a count and the rise of each over the one before, the first over 0: both number codecs are made of these.
-use mathlib.Core.Bool.{cond}
+use mathlib.Core.Bool.{Bool, true, false, cond}
 use mathlib.Core.List.{List, [], _∷_, _++_}
 use Prim.Native.Nat.{ℕ, zero, suc, _+_, _-_, _^_}
 use lib.Dec.{ltb, eqb}
@@ -10,7 +10,7 @@ use Rattle.std.specs.declared.result.Result.{Result}
 use Rattle.std.specs.declared.result.Result.the-variants.{Ok, Err}
 use Rattle.format.specs.declared.Cursor.{Cursor}
 use Rattle.format.specs.Numbers.{leb, Number, readLeb}
-use Rattle.format.specs.Codecs.{Flaw, noNumber, overflow, Opened}
+use Rattle.format.specs.Codecs.{Flaw, noNumber, overflow, Opened, Stepped}
 
 -- the rise of each number over the one before
 abbrev pub rises : ℕ → List ℕ → List ℕ
@@ -45,3 +45,21 @@ withEnd c (Err f) = Err f
 -- a cursor whose numbers are all there
 abbrev pub whole : Cursor → List ℕ → Opened
 whole c part = withEnd c (endIn (c .left) c part)
+
+-- whether a cursor moves
+abbrev pub moves : Result (Option Cursor) Flaw → Result Bool Flaw
+moves (Ok (Some d)) = Ok true
+moves (Ok None) = Ok false
+moves (Err f) = Err f
+
+-- where it then stands: where it does not move it stays
+abbrev pub risen : Cursor → Result (Option Cursor) Flaw → Cursor
+risen c (Ok (Some d)) = d
+risen c (Ok None) = c
+risen c (Err f) = c
+
+-- a step that gives a value made of where the cursor then stands
+abbrev pub valued : {V : Type 0} → (Cursor → V) → Result (Option Cursor) Flaw → Stepped V
+valued f (Ok (Some d)) = Ok (Some (f d, d))
+valued f (Ok None) = Ok None
+valued f (Err e) = Err e

@@ -1,0 +1,6 @@
+pub mod NumberLaws
+pub mod BufferLaws
+pub mod CodecLaws
+pub mod SumLaws
+pub mod MonotonicLaws
+pub mod FaultLaws
