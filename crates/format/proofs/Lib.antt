@@ -4,3 +4,5 @@ pub mod CodecLaws
 pub mod SumLaws
 pub mod MonotonicLaws
 pub mod FaultLaws
+pub mod RangeLaws
+pub mod VoidLaws
