@@ -41,7 +41,11 @@ fn end_of(start: Cursor, part: &[u8], place: usize) -> Result<usize, CodecFault>
 }
 
 // A cursor whose numbers are all there, and where they end.
-pub(crate) fn whole(cursor: Cursor, part: &[u8], place: usize) -> Result<(Cursor, usize), CodecFault>
+pub(crate) fn whole(
+    cursor: Cursor,
+    part: &[u8],
+    place: usize,
+) -> Result<(Cursor, usize), CodecFault>
     ensures { λ r. ⌜ told ofCodec r ≡ placed place (wholeOf cursor (now (part .entry))) ⌝ }
 {
     let end = end_of(cursor, part, place)?;

@@ -46,7 +46,11 @@ pub impl Codec for U64MonotonicValues as U64MonotonicCodec {
 
     fn new(heap: Global) -> Result<U64MonotonicValues, AllocError> {
         let vals = Vec::with_capacity(heap, MOST_VALUES)?;
-        Ok(U64MonotonicValues { vals, last: 0, rises_len: 0 })
+        Ok(U64MonotonicValues {
+            vals,
+            last: 0,
+            rises_len: 0,
+        })
     }
 
     fn allows(&self, v: u64) -> bool {
@@ -59,7 +63,9 @@ pub impl Codec for U64MonotonicValues as U64MonotonicCodec {
 
     fn size_with(&self, v: u64) -> usize {
         let rise = v.saturating_sub(self.last);
-        vint::serialized_len(self.vals.len() as u64 + 1) + self.rises_len + vint::serialized_len(rise)
+        vint::serialized_len(self.vals.len() as u64 + 1)
+            + self.rises_len
+            + vint::serialized_len(rise)
     }
 
     fn write(&mut self, v: u64, ordinal: u64) -> Result<(), CodecFault> {
@@ -88,10 +94,28 @@ pub impl Codec for U64MonotonicValues as U64MonotonicCodec {
 
     fn load(part: &[u8], place: usize) -> Result<(Cursor, usize), CodecFault> {
         let (next, left) = vint::deserialize_read(part, place)?;
-        Ok(sums::whole(Cursor { next, last: 0, left }, part, place)?)
+        Ok(
+            sums::whole(
+                Cursor {
+                    next,
+                    last: 0,
+                    left,
+                },
+                part,
+                place,
+            )?,
+        )
     }
 
-    fn next_value(cursor: &mut Cursor, part: &[u8], place: usize) -> Result<Option<u64>, CodecFault> {
-        if sums::rise(cursor, part, place)? { Ok(Some(cursor.last)) } else { Ok(None) }
+    fn next_value(
+        cursor: &mut Cursor,
+        part: &[u8],
+        place: usize,
+    ) -> Result<Option<u64>, CodecFault> {
+        if sums::rise(cursor, part, place)? {
+            Ok(Some(cursor.last))
+        } else {
+            Ok(None)
+        }
     }
 }

@@ -79,7 +79,11 @@ pub trait Codec: Sized {
         ensures { λ r. ⌜ told ofCodec r ≡ placed place (opens (now (part .entry))) ⌝ };
 
     // The next value of the part that the cursor was made for, or nothing where there are no more.
-    fn next_value(cursor: &mut Cursor, part: &[u8], place: usize) -> Result<Option<Self::Value>, CodecFault>
+    fn next_value(
+        cursor: &mut Cursor,
+        part: &[u8],
+        place: usize,
+    ) -> Result<Option<Self::Value>, CodecFault>
         ensures answer { λ r. ⌜ told ofCodec r ≡ placed place (given (steps (now (cursor .entry)) (now (part .entry)))) ⌝ }
         ensures after { λ _. ⌜ now (cursor .exit) ≡ moved (now (cursor .entry)) (steps (now (cursor .entry)) (now (part .entry))) ⌝ };
 }

@@ -16,7 +16,9 @@ use crate::fault::NumberFault;
 const CONTINUE_BIT: u8 = 128;
 // A number has at most ten bytes, and the tenth holds the 64th bit.
 const MAX_LEN: usize = 10;
+
 const LAST_INDEX: usize = 9;
+
 const LAST_LIMIT: u8 = 1;
 
 // How many bytes the number at the front of `buf` takes, and its value. Longer forms than the shortest are taken too, up to

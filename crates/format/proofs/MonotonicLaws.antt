@@ -55,10 +55,10 @@ u64-back vs rest a h =
     record {
       cursor = c;
       opened =
-        ap u64Opens e
-        ∙ ap (u64Counted (pre ++ (rises 0 vs ++ rest))) (leb-reads (length vs) (rises 0 vs ++ rest) (omega arith))
-        ∙ whole-rises pre rest r
-        ∙ ap (λ (k : ℕ). Ok (c, k)) n;
+          ap u64Opens e
+          ∙ ap (u64Counted (pre ++ (rises 0 vs ++ rest))) (leb-reads (length vs) (rises 0 vs ++ rest) (omega arith))
+          ∙ whole-rises pre rest r
+          ∙ ap (λ (k : ℕ). Ok (c, k)) n;
       values = λ i l. ap (λ (t : List ℕ). valueAt u64Steps c t i) e ∙ values-rises pre rest r i l;
     }
 

@@ -116,14 +116,15 @@ range-back [] rest a h =
     record {
       cursor = record { next = length (leb 0); last = 0; left = 0 };
       opened =
-        ap (λ (t : List ℕ). rangeOpens (t ++ rest)) (append-nil (leb 0)) ∙ opens-none rest
-        ∙ ap (λ (k : ℕ). Ok (record { next = length (leb 0); last = 0; left = 0 }, k)) (sym (ap length (append-nil (leb 0))));
+          ap (λ (t : List ℕ). rangeOpens (t ++ rest)) (append-nil (leb 0)) ∙ opens-none rest
+          ∙ ap (λ (k : ℕ). Ok (record { next = length (leb 0); last = 0; left = 0 }, k)) (sym (ap length (append-nil (leb 0))));
       values = λ i l. absurd (omega arith);
     }
 range-back (r ∷ rs) rest a h = back (range-joined r rs a)
   where
     start-fits : Joined (r .start) (r ∷ rs) → r .start < 2 ^ 64
     start-fits (joined e l s j) = omega arith
+
     back : Joined (r .start) (r ∷ rs) → Reads rangeOpens rangeSteps (rangeBytes (r ∷ rs) ++ rest) (r ∷ rs) (length (rangeBytes (r ∷ rs)))
     back j =
         let n = length (edges (r ∷ rs)) in

@@ -28,10 +28,10 @@ nth-here (v ∷ vs) (suc i) h = nth-here vs i (omega arith)
 
 pub void-back : ReadsBack voidRule voidBytes voidOpens voidSteps
 void-back vs rest a h = record {
-    cursor = record { next = 0; last = 0; left = 0 };
-    opened = refl;
-    values = λ i l. value-here (record { next = 0; last = 0; left = 0 }) rest i ∙ nth-here vs i l;
-  }
+  cursor = record { next = 0; last = 0; left = 0 };
+  opened = refl;
+  values = λ i l. value-here (record { next = 0; last = 0; left = 0 }) rest i ∙ nth-here vs i l;
+}
 
 pub void-short : Short voidRule voidBytes
 void-short vs a h = omega arith

@@ -1,6 +1,6 @@
 -- Keys are byte strings, compared byte by byte; a shorter key is below its extensions.
 use mathlib.Core.List.{List, [], _∷_}
-use mathlib.Core.Bool.{Bool, true, false, cond}
+use mathlib.Core.Bool.{Bool, true, false, cond, not, _&&_}
 use Prim.Native.Nat.{ℕ, suc}
 use lib.Dec.{eqb, ltb}
 use Rattle.std.specs.declared.option.Option.{Option}
@@ -16,6 +16,10 @@ below [] [] = false
 below [] (b ∷ ys) = true
 below (a ∷ xs) [] = false
 below (a ∷ xs) (b ∷ ys) = cond (ltb a b) true (cond (eqb a b) (below xs ys) false)
+
+-- two keys are the same: neither is below the other
+abbrev pub same : List ℕ → List ℕ → Bool
+same xs ys = not (below xs ys) && not (below ys xs)
 
 -- how many bytes two keys share at their front
 abbrev pub shared : List ℕ → List ℕ → ℕ

@@ -10,4 +10,14 @@ pub mod Void
 pub mod Buffers
 pub mod Tables
 pub mod Reading
+pub mod Writing
+pub mod Bounds
+pub mod Automata
+pub mod Streaming
+pub mod Searching
+pub mod Runs
+pub mod Joins
+pub mod Uniting
+pub mod Merging
+pub mod Laws
 pub mod Worked

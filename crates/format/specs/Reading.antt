@@ -102,9 +102,9 @@ module _ {V : Type 0} where
   keyed p base keep place suffix next value =
       cond (ltb (length base) keep) (faulted (fault block 9 (p .next)))
       (cond (follows (p .last) (take keep base ++ suffix))
-        (cond (ltb longest (keep + length suffix)) (faulted (fault block 10 (p .next)))
-          (valued p keep place suffix (take keep base ++ suffix) next value))
-        (faulted (fault block 9 (p .next))))
+      (cond (ltb longest (keep + length suffix)) (faulted (fault block 10 (p .next)))
+      (valued p keep place suffix (take keep base ++ suffix) next value))
+      (faulted (fault block 9 (p .next))))
 
   -- an entry's header: 6 where it is none, 8 where the suffix passes the block
   abbrev pub headed : List ℕ → Position → List ℕ → Header → Stepped V → Step V
@@ -132,17 +132,17 @@ module _ {V : Type 0} (opens : List ℕ → Opened) (steps : Cursor → List ℕ
   border area start p =
       cond (atMost (length area) start) ended
       (cond (ltb (length area - start) 4) (faulted (fault block 4 start))
-        (cond (ltb (wordAt area start) 2) ended
-          (cond (ltb (length area - start) (wordAt area start + 4)) (faulted (fault block 4 start))
-            (cond (eqb (getD area (start + 4) 0) 1) (faulted (fault block 5 start))
-              (opened area start (start + 4 + wordAt area start) p (opens (content area start (start + 4 + wordAt area start))))))))
+      (cond (ltb (wordAt area start) 2) ended
+      (cond (ltb (length area - start) (wordAt area start + 4)) (faulted (fault block 4 start))
+      (cond (eqb (getD area (start + 4) 0) 1) (faulted (fault block 5 start))
+      (opened area start (start + 4 + wordAt area start) p (opens (content area start (start + 4 + wordAt area start))))))))
 
   -- a block is still there, or it is 14 at its length word
   abbrev pub stepAt : List ℕ → Position → Step V
   stepAt area p =
       cond (ltb (length area) (p .finish)) (faulted (fault call 14 (p .start)))
       (cond (eqb (p .next) (p .finish)) (border area (p .finish) p)
-        (entryAt area p (keyOf (p .last))))
+      (entryAt area p (keyOf (p .last))))
 
   -- one step of a reader
   abbrev pub step : List ℕ → Standing → Step V

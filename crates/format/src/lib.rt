@@ -1,5 +1,7 @@
-// The meaning of sorted string tables: definitions that the contracts of all crates cite (specs/), and the two plain types
+// The meaning of sorted string tables: definitions that the contracts of all crates cite (specs/), and the plain types
 // that they speak of.
+
+ghost use Rattle.format.specs.Worked.{Worked};
 
 // A stretch of numbers from `start` up to `end`.
 #[derive(Clone, Copy, PartialEq, Eq, Debug)]
@@ -17,4 +19,19 @@ pub struct Cursor {
     pub last: u64,
     // how many values are still to come
     pub left: u64,
+}
+
+// A run of a merge: an sstable in a buffer, and how many of its entries the merge has taken.
+#[derive(Clone, Copy, PartialEq, Eq, Debug)]
+pub struct Run {
+    pub start: usize,
+    pub len: usize,
+    pub taken: usize,
+}
+
+// The worked examples hold of the definitions: numbers, headers, sstables, a stream, searches and merges.
+pub fn worked_examples() -> u8
+    ensures { λ _. ⌜ Worked ⌝ }
+{
+    0
 }

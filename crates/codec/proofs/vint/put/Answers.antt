@@ -32,7 +32,7 @@ returns c =
     record {
       value = omega (arith, ap length e);
       after =
-        written-one (c .loop-rest .buffer) (c .loop-rest .at) (c .loop-rest .rest) h
-        ∙ ap (written (c .loop-rest .buffer) (c .loop-rest .at)) (sym e)
-        ∙ c .loop-rest .inv .0;
+          written-one (c .loop-rest .buffer) (c .loop-rest .at) (c .loop-rest .rest) h
+          ∙ ap (written (c .loop-rest .buffer) (c .loop-rest .at)) (sym e)
+          ∙ c .loop-rest .inv .0;
     }
