@@ -9,6 +9,7 @@ ghost use Rattle.std.specs.declared.option.Option.the-variants.{Some, None};
 ghost use Rattle.format.specs.Buffers.{written};
 ghost use Rattle.format.specs.Faults.{told, orFault, badNumber};
 ghost use Rattle.format.specs.Numbers.{leb, readLeb};
+ghost use Rattle.codec.specs.NumberBack.{NumberBack};
 ghost use Rattle.codec.specs.Told.{ofNumber};
 use crate::fault::NumberFault;
 
@@ -28,6 +29,7 @@ pub fn deserialize_read(buf: &[u8], place: usize) -> Result<(usize, u64), Number
     ensures some { λ r. ⌜ made r (λ p. 0 < p .0) ⌝ }
     ensures ten { λ r. ⌜ made r (λ p. p .0 ≤ 10) ⌝ }
     ensures within { λ r. ⌜ made r (λ p. p .0 ≤ length (now (buf .entry))) ⌝ }
+    ensures back { λ r. ⌜ NumberBack (now (buf .entry)) r ⌝ }
 {
     if buf.is_empty() {
         return Err(NumberFault::Bad { place });

@@ -6,3 +6,4 @@ pub mod MonotonicLaws
 pub mod FaultLaws
 pub mod RangeLaws
 pub mod VoidLaws
+pub mod HeaderLaws

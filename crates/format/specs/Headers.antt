@@ -29,3 +29,13 @@ keepOf bs None = None
 abbrev pub readHeader : List ℕ → Header
 readHeader [] = None
 readHeader (b ∷ bs) = cond (eqb b 1) (keepOf bs (readLeb bs)) (Some (1, (b % 16, b / 16)))
+
+-- keep and add together
+abbrev pub pairOf : Header → Option (ℕ × ℕ)
+pairOf (Some h) = Some (h .1)
+pairOf None = None
+
+-- how far a header goes; nowhere where there is none
+abbrev pub lengthOf : Header → ℕ
+lengthOf (Some h) = h .0
+lengthOf None = 0

@@ -87,6 +87,15 @@ wordAt area place = getD area place 0 + getD area (place + 1) 0 * 256 + getD are
 abbrev pub content : List ℕ → ℕ → ℕ → List ℕ
 content area start finish = take (finish - (start + 5)) (drop (start + 5) area)
 
+-- where the block at a border ends, or nothing at the end: 4 where it is cut short, 5 where it is compressed
+abbrev pub blockAt : List ℕ → ℕ → Result (Option ℕ) Fault
+blockAt area start =
+    cond (atMost (length area) start) (Ok None)
+    (cond (ltb (length area - start) 4) (Err (fault block 4 start))
+    (cond (ltb (wordAt area start) 2) (Ok None)
+    (cond (ltb (length area - start) (wordAt area start + 4)) (Err (fault block 4 start))
+    (cond (eqb (getD area (start + 4) 0) 1) (Err (fault block 5 start)) (Ok (Some (start + 4 + wordAt area start)))))))
+
 module _ {V : Type 0} where
   -- an entry with its value: 11 where there is none for it
   abbrev pub valued : Position → ℕ → ℕ → List ℕ → List ℕ → ℕ → Stepped V → Step V
@@ -127,15 +136,14 @@ module _ {V : Type 0} (opens : List ℕ → Opened) (steps : Cursor → List ℕ
       (entryAt area (record { start = start; finish = finish; next = start + 5 + o .1; cursor = o .0; last = p .last; ordinal = p .ordinal }) [])
       ended
 
-  -- the block at a border: 4 where it is cut short, 5 where it is compressed
+  -- the first entry of the block at a border, if there is one
+  abbrev pub loaded : List ℕ → ℕ → Position → Result (Option ℕ) Fault → Step V
+  loaded area start p (Ok (Some finish)) = opened area start finish p (opens (content area start finish))
+  loaded area start p (Ok None) = ended
+  loaded area start p (Err f) = faulted f
+
   abbrev pub border : List ℕ → ℕ → Position → Step V
-  border area start p =
-      cond (atMost (length area) start) ended
-      (cond (ltb (length area - start) 4) (faulted (fault block 4 start))
-      (cond (ltb (wordAt area start) 2) ended
-      (cond (ltb (length area - start) (wordAt area start + 4)) (faulted (fault block 4 start))
-      (cond (eqb (getD area (start + 4) 0) 1) (faulted (fault block 5 start))
-      (opened area start (start + 4 + wordAt area start) p (opens (content area start (start + 4 + wordAt area start))))))))
+  border area start p = loaded area start p (blockAt area start)
 
   -- a block is still there, or it is 14 at its length word
   abbrev pub stepAt : List ℕ → Position → Step V

@@ -1,0 +1,3 @@
+// Reading blocks and their entries.
+pub mod fault;
+pub mod header;
