@@ -83,14 +83,14 @@ pub(crate) fn put(val: u64, buffer: &mut [u8], start: usize) -> usize
     at + 1
 }
 
-// Writes the shortest form of `val` at the front of `buffer`, and answers how many bytes it took; nothing, with the buffer as it
-// was, where it does not fit.
-pub fn serialize(val: u64, buffer: &mut [u8]) -> Option<usize>
-    ensures value { λ r. ⌜ r ≡ cond (atMost (length (leb val)) (length (now (buffer .entry)))) (Some (length (leb val))) None ⌝ }
-    ensures after { λ _. ⌜ now (buffer .exit) ≡ cond (atMost (length (leb val)) (length (now (buffer .entry)))) (written (now (buffer .entry)) 0 (leb val)) (now (buffer .entry)) ⌝ }
+// Writes the shortest form of `val` into `buffer` from `start` on, and answers the place behind it; nothing, with the buffer as
+// it was, where it does not fit.
+pub fn serialize(val: u64, buffer: &mut [u8], start: usize) -> Option<usize>
+    ensures value { λ r. ⌜ r ≡ cond (atMost (start + length (leb val)) (length (now (buffer .entry)))) (Some (start + length (leb val))) None ⌝ }
+    ensures after { λ _. ⌜ now (buffer .exit) ≡ cond (atMost (start + length (leb val)) (length (now (buffer .entry)))) (written (now (buffer .entry)) start (leb val)) (now (buffer .entry)) ⌝ }
 {
-    if serialized_len(val) > buffer.len() {
+    if start > buffer.len() || serialized_len(val) > buffer.len() - start {
         return None;
     }
-    Some(put(val, buffer, 0))
+    Some(put(val, buffer, start))
 }

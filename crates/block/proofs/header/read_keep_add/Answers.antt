@@ -1,22 +1,8 @@
-use borrow.Author.Needs.{needs}
+use Rattle.block.proofs.HeaderReads.{owed-ok, owed-err}
 use Rattle.block.proofs.header.read_keep_add.Needs as need
 
--- src/header.rt:29:9
-pub returns-then-place-block : need.returns-then-place-block
-returns-then-place-block c = ?
+pub returns-in-Ok : need.returns-in-Ok
+returns-in-Ok c = let o = owed-ok (c .args .block .now) (c .args .offset .now) (c .in-Ok .n) (c .in-Ok .pair) (c .in-Ok .ensures tt .answer) in record { answer = o .answer; after = o .after; back = o .back }
 
--- src/header.rt:34:9
-pub returns-then-b-ne-VINT-MODE : need.returns-then-b-ne-VINT-MODE
-returns-then-b-ne-VINT-MODE c = ?
-
--- src/header.rt:36:21
-pub returns-in-Break-n : need.returns-in-Break-n
-returns-in-Break-n c = ?
-
--- src/header.rt:37:20
-pub returns-in-Break-m : need.returns-in-Break-m
-returns-in-Break-m c = ?
-
--- src/header.rt:22:1
-pub returns : need.returns
-returns c = ?
+pub returns-in-Err : need.returns-in-Err
+returns-in-Err c = let o = owed-err (c .args .block .now) (c .args .offset .now) (c .in-Err .e) (c .in-Err .ensures tt .answer) in record { answer = o .answer; after = o .after; back = o .back }
