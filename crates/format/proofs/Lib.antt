@@ -7,3 +7,4 @@ pub mod FaultLaws
 pub mod RangeLaws
 pub mod VoidLaws
 pub mod HeaderLaws
+pub mod KeyLaws

@@ -2,26 +2,27 @@
 use mathlib.Core.Path.{_≡_, refl, sym, ap, _∙_}
 use mathlib.Core.Bool.{Bool, true, false, _&&_}
 use mathlib.Core.List.{List, [], _∷_, _++_, append-assoc}
+use mathlib.Core.Logic.{inl, inr}
 use Prim.Native.Nat.{ℕ, zero, suc, _+_, _-_, _*_, _^_, _<_, _≤_}
 use native.Mathlib.Omega.{arith}
 use lib.Dec.{ltb, eqb, leb as atMost}
 use lib.ListN.{length, drop, length-append, length-drop}
 use Rattle.std.proofs.shelf.Lists.{drop-at, append-nil}
-use Rattle.std.proofs.shelf.Tests.{and-parts, leb-true, ltb-true, eqb-true, ne-eqb, cond-true, cond-false, eq-eqb, cases-bool}
+use Rattle.std.proofs.shelf.Tests.{and-parts, and-from, and-left, leb-true, ltb-true, eqb-true, ne-eqb, cond-true, cond-false, eq-eqb, le-leb, lt-ltb, le-ltb, cases-lt}
 use Rattle.std.specs.Finite.{nth}
 use Rattle.std.specs.declared.option.Option.{Option}
 use Rattle.std.specs.declared.option.Option.the-variants.{Some, None}
 use Rattle.std.specs.declared.result.Result.{Result}
-use Rattle.std.specs.declared.result.Result.the-variants.{Ok, Err}
+use Rattle.std.specs.declared.result.Result.the-variants.{Ok}
 use Rattle.format.specs.declared.Cursor.{Cursor}
 use Rattle.format.specs.declared.Range.{Range}
 use Rattle.format.specs.Numbers.{leb, Number, readLeb}
-use Rattle.format.specs.Codecs.{Flaw, noNumber, Opened, Allowed, allowedAfter, ReadsBack, Short, Within, Stepped, Reads, valueAt, valueOf, moved, most}
-use Rattle.format.specs.Sums.{rises, counted, rise, whole, valued}
+use Rattle.format.specs.Codecs.{Flaw, Opened, Allowed, takes, allowedAfter, ReadsBack, Short, Within, Reads, valueAt, valueOf, moved, most}
+use Rattle.format.specs.Sums.{rises, rise, whole, valued}
 use Rattle.format.specs.Monotonic.{lastOr}
 use Rattle.format.specs.Ranges.{endOr, joins, rangeRule, ends, edges, rangeBytes, rangeStarted, rangeCounted, rangeOpens, rangeSteps, rangesFrom, rangesOf}
-use Rattle.format.proofs.NumberLaws.{leb-reads, Sized, read-sized}
-use Rattle.format.proofs.SumLaws.{Rising, none, more, before, rise-one, part-next, whole-rises, counted-short, whole-within}
+use Rattle.format.proofs.NumberLaws.{leb-reads, read-sized}
+use Rattle.format.proofs.SumLaws.{Rising, none, more, before, rise-one, part-next, whole-rises, counted-short, whole-within, rises-short, counted-length}
 
 -- ranges of which each starts where the one before ends, the first at a place
 pub data Joined : ℕ → List Range → Type 0 where
@@ -215,3 +216,59 @@ pub joins-last : (es : List ℕ) (start : ℕ) → 0 < length es → (length es 
 joins-last [] start h n = absurd (omega arith)
 joins-last (s ∷ []) start h n = absurd (n refl)
 joins-last (s ∷ e ∷ es) start h n = ap (λ (k : ℕ). eqb k start) (end-from e es)
+
+-- their rises take at most ten bytes each
+pub edges-short : (es : List ℕ) → (length es ≡ 1 → ⊥) → Allowed rangeRule (rangesOf es) → length (rises 0 es) ≤ 10 * length es
+edges-short es n a = rw (edges-of es n) at (rises-short (edges-rising (rangesOf es) a))
+
+-- What a codec that holds edges takes.
+joins-held : (es : List ℕ) (start : ℕ) → (length es ≡ 1 → ⊥) → (0 < length es → lastOr 0 es ≡ start) → joins (rangesOf es) start ≡ true
+joins-held [] start n j = refl
+joins-held (e ∷ es) start n j = joins-last (e ∷ es) start (omega arith) n ∙ eq-eqb _ start (j (omega arith))
+
+pub takes-apart : (es : List ℕ) (r : Range) → 0 < length es → (length es ≡ 1 → ⊥) → (lastOr 0 es ≡ r .start → ⊥) → takes rangeRule (rangesOf es) r ≡ false
+takes-apart es r h n d = and-left _ _ (and-left _ _ (joins-last es (r .start) h n ∙ ne-eqb _ _ d))
+
+-- one edge more than ranges
+room : (n : ℕ) → ltb (n - 1) most ≡ ltb n 2002
+room n = elim (cases-lt n 2002) [
+  | inl h ↦ lt-ltb (n - 1) most (omega arith) ∙ sym (lt-ltb n 2002 h)
+  | inr h ↦ le-ltb (n - 1) most (omega arith) ∙ sym (le-ltb n 2002 h)
+]
+
+pub takes-joining : (es : List ℕ) (r : Range) → (length es ≡ 1 → ⊥) → (0 < length es → lastOr 0 es ≡ r .start) → r .start ≤ r .end → r .end < 2 ^ 64
+    → takes rangeRule (rangesOf es) r ≡ ltb (length es) 2002
+takes-joining es r n j h s =
+    ap (λ (b : Bool). b && ltb (length (rangesOf es)) most) (and-from _ _ (joins-held es (r .start) n j) (and-from _ _ (le-leb (r .start) (r .end) h) (lt-ltb (r .end) (2 ^ 64) s)))
+    ∙ ap (λ (k : ℕ). ltb k most) (ranges-length es)
+    ∙ room (length es)
+
+-- One range more.
+pub ranges-more : (es : List ℕ) (r : Range) → 0 < length es → (length es ≡ 1 → ⊥) → rangeRule (rangesOf es) r ≡ true → rangesOf (es ++ r .end ∷ []) ≡ rangesOf es ++ r ∷ []
+ranges-more es r h n a =
+    let j = and-parts (joins (rangesOf es) (r .start)) (atMost (r .start) (r .end) && ltb (r .end) (2 ^ 64)) a .0 in
+    let e : lastOr 0 es ≡ r .start = eqb-true _ _ (sym (joins-last es (r .start) h n) ∙ j) in
+    ranges-push es (r .end) h ∙ ap (λ (k : ℕ). rangesOf es ++ record { start = k; end = r .end } ∷ []) e
+
+pub ranges-first : (es : List ℕ) (r : Range) → length es ≡ 0 → rangesOf ((es ++ r .start ∷ []) ++ r .end ∷ []) ≡ rangesOf es ++ r ∷ []
+ranges-first [] r z = refl
+ranges-first (e ∷ es) r z = absurd (omega arith)
+
+-- the bytes of the first range
+pub rises-first : (es : List ℕ) (r : Range) → length es ≡ 0 → length (rises 0 ((es ++ r .start ∷ []) ++ r .end ∷ [])) ≡ length (leb (r .start)) + length (leb (r .end - r .start))
+rises-first [] r z =
+    let k : length (leb (r .start - 0)) ≡ length (leb (r .start)) = ap (λ (m : ℕ). length (leb m)) (omega arith) in
+    omega (arith, k, length-append (leb (r .start - 0)) (leb (r .end - r .start) ++ []), length-append (leb (r .end - r .start)) [])
+rises-first (e ∷ es) r z = absurd (omega arith)
+
+pub counted-first : (es : List ℕ) (r : Range) → length es ≡ 0
+    → length (rangeBytes (rangesOf es ++ r ∷ [])) ≡ length (leb 2) + length (leb (r .start)) + length (leb (r .end - r .start))
+counted-first [] r z = omega (arith, counted-length (r .start ∷ r .end ∷ []), rises-first [] r refl)
+counted-first (e ∷ es) r z = absurd (omega arith)
+
+-- What a part opens as.
+pub opens-zero : (part : List ℕ) (n count : ℕ) → readLeb part ≡ Some (n, count) → count ≡ 0 → rangeOpens part ≡ Ok (record { next = n; last = 0; left = 0 }, n)
+opens-zero part n count e z = ap (rangeCounted part) e ∙ cond-true (eqb count 0) _ _ (eq-eqb count 0 z)
+
+pub opens-some : (part : List ℕ) (n count : ℕ) (r : Number) → readLeb part ≡ Some (n, count) → 0 < count → readLeb (drop n part) ≡ r → rangeOpens part ≡ rangeStarted part n count r
+opens-some part n count r e h f = ap (rangeCounted part) e ∙ cond-false (eqb count 0) _ _ (ne-eqb count 0 (λ z. omega arith)) ∙ ap (rangeStarted part n count) f

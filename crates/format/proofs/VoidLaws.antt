@@ -1,15 +1,14 @@
 -- The laws of the codec of values without content.
-use mathlib.Core.Path.{_≡_, refl, sym, ap, _∙_}
+use mathlib.Core.Path.{_≡_, refl, ap, _∙_}
 use mathlib.Core.Bool.{true}
 use mathlib.Core.List.{List, [], _∷_, _++_}
-use Prim.Native.Nat.{ℕ, zero, suc, _+_, _≤_, _<_}
+use Prim.Native.Nat.{ℕ, zero, suc, _<_}
 use native.Mathlib.Omega.{arith}
-use lib.ListN.{length, replicate}
+use lib.ListN.{length}
 use Rattle.std.specs.Finite.{nth}
-use Rattle.std.specs.declared.option.Option.the-variants.{Some, None}
-use Rattle.std.specs.declared.result.Result.the-variants.{Ok}
+use Rattle.std.specs.declared.option.Option.the-variants.{Some}
 use Rattle.format.specs.declared.Cursor.{Cursor}
-use Rattle.format.specs.Codecs.{allowedAfter, Allowed, ReadsBack, Short, Within, valueAt}
+use Rattle.format.specs.Codecs.{allowedAfter, ReadsBack, Short, Within, valueAt}
 use Rattle.format.specs.Void.{voidRule, voidBytes, voidOpens, voidSteps}
 
 -- every list is allowed

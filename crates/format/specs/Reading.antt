@@ -79,22 +79,26 @@ abbrev pub keyOf : Option (List ℕ) → List ℕ
 keyOf None = []
 keyOf (Some k) = k
 
--- the number in four bytes, the lowest first
-abbrev pub wordAt : List ℕ → ℕ → ℕ
-wordAt area place = getD area place 0 + getD area (place + 1) 0 * 256 + getD area (place + 2) 0 * 65536 + getD area (place + 3) 0 * 16777216
+-- the number in the first four bytes, the lowest first
+abbrev pub wordOf : List ℕ → ℕ
+wordOf rest = getD rest 0 0 + getD rest 1 0 * 256 + getD rest 2 0 * 65536 + getD rest 3 0 * 16777216
 
 -- the bytes of a block behind its flag
 abbrev pub content : List ℕ → ℕ → ℕ → List ℕ
 content area start finish = take (finish - (start + 5)) (drop (start + 5) area)
 
--- where the block at a border ends, or nothing at the end: 4 where it is cut short, 5 where it is compressed
+-- where the block at the front of the rest of an area ends, or nothing at the end: 4 where it is cut short, 5 where it is
+-- compressed
+abbrev pub blockIn : ℕ → List ℕ → Result (Option ℕ) Fault
+blockIn start rest =
+    cond (eqb (length rest) 0) (Ok None)
+    (cond (ltb (length rest) 4) (Err (fault block 4 start))
+    (cond (ltb (wordOf rest) 2) (Ok None)
+    (cond (ltb (length rest) (wordOf rest + 4)) (Err (fault block 4 start))
+    (cond (eqb (getD rest 4 0) 1) (Err (fault block 5 start)) (Ok (Some (start + 4 + wordOf rest)))))))
+
 abbrev pub blockAt : List ℕ → ℕ → Result (Option ℕ) Fault
-blockAt area start =
-    cond (atMost (length area) start) (Ok None)
-    (cond (ltb (length area - start) 4) (Err (fault block 4 start))
-    (cond (ltb (wordAt area start) 2) (Ok None)
-    (cond (ltb (length area - start) (wordAt area start + 4)) (Err (fault block 4 start))
-    (cond (eqb (getD area (start + 4) 0) 1) (Err (fault block 5 start)) (Ok (Some (start + 4 + wordAt area start)))))))
+blockAt area start = blockIn start (drop start area)
 
 module _ {V : Type 0} where
   -- an entry with its value: 11 where there is none for it
