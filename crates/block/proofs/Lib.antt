@@ -1,1 +1,2 @@
 pub mod HeaderReads
+pub mod LastKeys
