@@ -1,3 +1,4 @@
 pub mod Told
 pub mod HeaderBack
 pub mod Keyed
+pub mod Blocks

@@ -1,5 +1,7 @@
 // Reading blocks and their entries.
+pub mod block_reader;
 pub mod fault;
+pub mod frame;
 pub mod header;
 mod key_calls;
 pub mod keys;
