@@ -1,2 +1,3 @@
+pub mod EntryReads
 pub mod HeaderReads
 pub mod LastKeys

@@ -2,3 +2,4 @@ pub mod Told
 pub mod HeaderBack
 pub mod Keyed
 pub mod Blocks
+pub mod Entries

@@ -47,6 +47,7 @@ pub fn read_keep_add(block: &[u8], offset: &mut usize) -> Result<(usize, usize),
     ensures answer { λ r. ⌜ told ofNumber r ≡ orFault (pairOf (readHeader (drop (now (offset .entry)) (now (block .entry))))) (badNumber (now (offset .entry))) ⌝ }
     ensures after { λ _. ⌜ now (offset .exit) ≡ now (offset .entry) + lengthOf (readHeader (drop (now (offset .entry)) (now (block .entry)))) ⌝ }
     ensures back { λ r. ⌜ HeaderBack (now (block .entry)) (now (offset .entry)) r (now (offset .exit)) ⌝ }
+    ensures within { λ r. ⌜ made r (λ _. (now (offset .entry) < now (offset .exit)) × (now (offset .exit) ≤ length (now (block .entry)))) ⌝ }
 {
     let place = *offset;
     match read_header(block, place) {

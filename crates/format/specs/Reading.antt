@@ -100,37 +100,60 @@ blockIn start rest =
 abbrev pub blockAt : List ℕ → ℕ → Result (Option ℕ) Fault
 blockAt area start = blockIn start (drop start area)
 
+-- The suffix of a key: how many bytes of the key before it follows, where it stands in the area, and its bytes.
+pub record Suffix : Type 0 where
+  pub keep : ℕ
+  pub place : ℕ
+  pub bytes : List ℕ
+
+abbrev pub suffixOf : List ℕ → ℕ → ℕ → Header → Result Suffix Fault
+suffixOf area next finish None = Err (badNumber next)
+suffixOf area next finish (Some h) =
+    cond (ltb (finish - (next + h .0)) (h .1 .1)) (Err (fault block 8 next))
+    (Ok (record { keep = h .1 .0; place = next + h .0; bytes = take (h .1 .1) (drop (next + h .0) area) }))
+
+-- the suffix at a header: 6 where that is none, 8 where the suffix passes the block
+abbrev pub suffixAt : List ℕ → ℕ → ℕ → Result Suffix Fault
+suffixAt area next finish = suffixOf area next finish (readHeader (drop next (take finish area)))
+
+-- the key that a suffix makes of a base: 9 where it keeps more than there is or is not above the key before, 10 where it is
+-- too long
+abbrev pub keyWith : ℕ → Option (List ℕ) → List ℕ → Suffix → Result (List ℕ) Fault
+keyWith next last base s =
+    cond (ltb (length base) (s .keep)) (Err (fault block 9 next))
+    (cond (follows last (take (s .keep) base ++ s .bytes))
+      (cond (ltb longest (s .keep + length (s .bytes))) (Err (fault block 10 next)) (Ok (take (s .keep) base ++ s .bytes)))
+      (Err (fault block 9 next)))
+
 module _ {V : Type 0} where
   -- an entry with its value: 11 where there is none for it
-  abbrev pub valued : Position → ℕ → ℕ → List ℕ → List ℕ → ℕ → Stepped V → Step V
-  valued p keep place suffix key next (Ok (Some g)) =
+  abbrev pub valued : Position → Suffix → List ℕ → Stepped V → Step V
+  valued p s key (Ok (Some g)) =
       entry
-      (record { keep = keep; suffix = suffix; place = place; ordinal = p .ordinal; value = g .0 })
-      (record { start = p .start; finish = p .finish; next = next; cursor = g .1; last = Some key; ordinal = p .ordinal + 1 })
-  valued p keep place suffix key next (Ok None) = faulted (fault block 11 (p .next))
-  valued p keep place suffix key next (Err f) = faulted (flawAt (p .start + 5) f)
+      (record { keep = s .keep; suffix = s .bytes; place = s .place; ordinal = p .ordinal; value = g .0 })
+      (record {
+        start = p .start;
+        finish = p .finish;
+        next = s .place + length (s .bytes);
+        cursor = g .1;
+        last = Some key;
+        ordinal = p .ordinal + 1;
+      })
+  valued p s key (Ok None) = faulted (fault block 11 (p .next))
+  valued p s key (Err f) = faulted (flawAt (p .start + 5) f)
 
-  -- an entry's key: 9 where it keeps more than there is or is not above the key before, 10 where it is too long
-  abbrev pub keyed : Position → List ℕ → ℕ → ℕ → List ℕ → ℕ → Stepped V → Step V
-  keyed p base keep place suffix next value =
-      cond (ltb (length base) keep) (faulted (fault block 9 (p .next)))
-      (cond (follows (p .last) (take keep base ++ suffix))
-      (cond (ltb longest (keep + length suffix)) (faulted (fault block 10 (p .next)))
-      (valued p keep place suffix (take keep base ++ suffix) next value))
-      (faulted (fault block 9 (p .next))))
+  abbrev pub keyed : Position → Suffix → Result (List ℕ) Fault → Stepped V → Step V
+  keyed p s (Ok key) value = valued p s key value
+  keyed p s (Err f) value = faulted f
 
-  -- an entry's header: 6 where it is none, 8 where the suffix passes the block
-  abbrev pub headed : List ℕ → Position → List ℕ → Header → Stepped V → Step V
-  headed area p base None value = faulted (badNumber (p .next))
-  headed area p base (Some h) value =
-      cond (ltb (p .finish - (p .next + h .0)) (h .1 .1)) (faulted (fault block 8 (p .next)))
-      (keyed p base (h .1 .0) (p .next + h .0) (take (h .1 .1) (drop (p .next + h .0) area)) (p .next + h .0 + h .1 .1) value)
+  abbrev pub suffixed : Position → List ℕ → Result Suffix Fault → Stepped V → Step V
+  suffixed p base (Ok s) value = keyed p s (keyWith (p .next) (p .last) base s) value
+  suffixed p base (Err f) value = faulted f
 
 module _ {V : Type 0} (opens : List ℕ → Opened) (steps : Cursor → List ℕ → Stepped V) where
   -- the entry at the next header; base is the key of which it may keep bytes, which is empty at a block's first entry
   abbrev pub entryAt : List ℕ → Position → List ℕ → Step V
-  entryAt area p base =
-      headed area p base (readHeader (drop (p .next) (take (p .finish) area))) (steps (p .cursor) (content area (p .start) (p .finish)))
+  entryAt area p base = suffixed p base (suffixAt area (p .next) (p .finish)) (steps (p .cursor) (content area (p .start) (p .finish)))
 
   -- the first entry of a block whose values are opened; a block without entries is the end
   abbrev pub opened : List ℕ → ℕ → ℕ → Position → Opened → Step V
