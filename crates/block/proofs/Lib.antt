@@ -1,3 +1,4 @@
+pub mod BlockReads
 pub mod EntryReads
 pub mod HeaderReads
 pub mod LastKeys

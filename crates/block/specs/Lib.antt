@@ -3,3 +3,4 @@ pub mod HeaderBack
 pub mod Keyed
 pub mod Blocks
 pub mod Entries
+pub mod Readers

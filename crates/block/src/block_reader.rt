@@ -21,7 +21,8 @@ const LEAST_WORD: usize = 2;
 // A border with too few bytes for a length word and a flag.
 fn short_block(rest: &[u8], place: usize) -> Result<Option<Block>, BlockFault>
     requires { ⌜ length (now rest) < 5 ⌝ }
-    ensures { λ r. ⌜ told ofBlock r ≡ framed place (blockIn place (now (rest .entry))) ⌝ }
+    ensures answer { λ r. ⌜ told ofBlock r ≡ framed place (blockIn place (now (rest .entry))) ⌝ }
+    ensures within { λ r. ⌜ made r (λ o. found o (λ _. ⊥)) ⌝ }
 {
     match rest {
         [] => Ok(None),
@@ -33,7 +34,8 @@ fn short_block(rest: &[u8], place: usize) -> Result<Option<Block>, BlockFault>
 // The block at the front of the rest of an area, which begins at `place`.
 fn first_block(rest: &[u8], place: usize) -> Result<Option<Block>, BlockFault>
     requires { ⌜ place + length (now rest) < 2 ^ 64 ⌝ }
-    ensures { λ r. ⌜ told ofBlock r ≡ framed place (blockIn place (now (rest .entry))) ⌝ }
+    ensures answer { λ r. ⌜ told ofBlock r ≡ framed place (blockIn place (now (rest .entry))) ⌝ }
+    ensures within { λ r. ⌜ made r (λ o. found o (λ b. (b .start ≡ place) × (place + 5 < b .end) × (b .end ≤ place + length (now (rest .entry))))) ⌝ }
 {
     let [a, b, c, d, flag, content @ ..] = rest else {
         return short_block(rest, place);
@@ -48,12 +50,16 @@ fn first_block(rest: &[u8], place: usize) -> Result<Option<Block>, BlockFault>
     if *flag == COMPRESSED {
         return Err(BlockFault::Compressed { place });
     }
-    Ok(Some(Block { start: place, end: place + 4 + word }))
+    Ok(Some(Block {
+        start: place,
+        end: place + 4 + word,
+    }))
 }
 
 // The block at a border of an area, or nothing at the end.
 pub fn read_block(area: &[u8], place: usize) -> Result<Option<Block>, ReadFault>
-    ensures { λ r. ⌜ told ofRead r ≡ readBlock (now (area .entry)) place ⌝ }
+    ensures answer { λ r. ⌜ told ofRead r ≡ readBlock (now (area .entry)) place ⌝ }
+    ensures within { λ r. ⌜ made r (λ o. found o (λ b. (b .start ≡ place) × (place + 5 < b .end) × (b .end ≤ length (now (area .entry))))) ⌝ }
 {
     if place > area.len() {
         return Err(ReadFault::Outside { place });

@@ -15,10 +15,10 @@ ghost use Rattle.block.specs.Told.{ofBlock};
 use crate::fault::BlockFault;
 use crate::fault::BlockFromCodec;
 use crate::fault::BlockFromNumber;
-use crate::frame::Block;
 use crate::found::Delta;
 use crate::found::Found;
 use crate::found::Suffix;
+use crate::frame::Block;
 use crate::header::read_keep_add;
 use crate::keys::is_below;
 use crate::last_key::KEY_MAX_LEN;
@@ -37,7 +37,11 @@ fn read_suffix(area: &[u8], next: usize, end: usize) -> Result<Suffix<'_>, Block
     if add > end - offset {
         return Err(BlockFault::Suffix { place: next });
     }
-    Ok(Suffix { keep, place: offset, bytes: &area[offset..offset + add] })
+    Ok(Suffix {
+        keep,
+        place: offset,
+        bytes: &area[offset..offset + add],
+    })
 }
 
 // How many bytes of the key before an entry may keep: none at a block's first.
@@ -79,7 +83,15 @@ fn check_key(last: &LastKey, first: bool, suffix: Suffix<'_>, next: usize) -> Re
 }
 
 // The entry at a header of a block, behind the key before.
-pub(crate) fn read_entry<'a, C: Codec>(area: &'a [u8], block: Block, next: usize, values: Cursor, last: &LastKey, first: bool, ordinal: u64) -> Result<Found<'a, C::Value>, BlockFault>
+pub(crate) fn read_entry<'a, C: Codec>(
+    area: &'a [u8],
+    block: Block,
+    next: usize,
+    values: Cursor,
+    last: &LastKey,
+    first: bool,
+    ordinal: u64,
+) -> Result<Found<'a, C::Value>, BlockFault>
     requires within { ⌜ block .end ≤ length (now area) ⌝ }
     requires behind { ⌜ block .start + 5 ≤ block .end ⌝ }
     ensures answer { λ r. ⌜ entryOf (lastOf (now (last .entry))) ordinal r ≡ entryAt (C·Codec .opens) (C·Codec .steps) (now (area .entry)) (position block next values (lastOf (now (last .entry))) ordinal) (baseOf first (lastOf (now (last .entry)))) ⌝ }
@@ -95,5 +107,16 @@ pub(crate) fn read_entry<'a, C: Codec>(area: &'a [u8], block: Block, next: usize
     };
     let Suffix { keep, place, bytes } = suffix;
     let next = place + bytes.len();
-    Ok(Found { block, next, cursor, delta: Delta { keep, suffix: bytes, place, ordinal, value } })
+    Ok(Found {
+        block,
+        next,
+        cursor,
+        delta: Delta {
+            keep,
+            suffix: bytes,
+            place,
+            ordinal,
+            value,
+        },
+    })
 }

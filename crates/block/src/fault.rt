@@ -3,9 +3,9 @@ ghost use mathlib.Core.Path.{_≡_};
 ghost use Rattle.block.specs.declared.fault.BlockFault.the-variants as block-fault;
 ghost use Rattle.block.specs.declared.fault.ReadFault.the-variants as read-fault;
 use codec::fault::CodecFault;
-use codec::fault::NumberFault;
 use codec::fault::CodecFaultDebug;
 use codec::fault::CodecFaultPartialEq;
+use codec::fault::NumberFault;
 use codec::fault::NumberFaultDebug;
 use codec::fault::NumberFaultPartialEq;
 

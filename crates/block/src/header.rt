@@ -71,7 +71,11 @@ fn put_numbers(buf: &mut [u8], keep: u64, add: u64) -> usize
 }
 
 // Puts a header behind what `block` holds, or leaves it as it was where there is no memory.
-pub fn encode_keep_add(block: &mut Vec<u8>, keep_len: usize, add_len: usize) -> Result<(), AllocError>
+pub fn encode_keep_add(
+    block: &mut Vec<u8>,
+    keep_len: usize,
+    add_len: usize,
+) -> Result<(), AllocError>
     ensures after { λ r. ⌜ vec-items (now (block .exit)) ≡ cond (isOk r) (vec-items (now (block .entry)) ++ header «keep_len» «add_len») (vec-items (now (block .entry))) ⌝ }
     ensures succeeds { λ r. ⌜ Cases r (λ _. Unit {0}) (λ _. vec-cap (now (block .entry)) < vec-len (now (block .entry)) + 21) ⌝ }
 {

@@ -13,7 +13,11 @@ impl LastKey {
     pub(crate) fn new() -> LastKey
         ensures { λ r. ⌜ lastOf r ≡ None ⌝ }
     {
-        LastKey { bytes: [0; KEY_MAX_LEN], len: 0, some: false }
+        LastKey {
+            bytes: [0; KEY_MAX_LEN],
+            len: 0,
+            some: false,
+        }
     }
 
     // The bytes of the key; none where there is no key.

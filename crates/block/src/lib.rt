@@ -1,5 +1,6 @@
 // Reading blocks and their entries.
 pub mod block_reader;
+pub mod delta;
 mod entry;
 pub mod fault;
 pub mod found;
@@ -8,3 +9,4 @@ pub mod header;
 mod key_calls;
 pub mod keys;
 mod last_key;
+pub mod reader;

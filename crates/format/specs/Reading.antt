@@ -122,8 +122,8 @@ abbrev pub keyWith : ℕ → Option (List ℕ) → List ℕ → Suffix → Resul
 keyWith next last base s =
     cond (ltb (length base) (s .keep)) (Err (fault block 9 next))
     (cond (follows last (take (s .keep) base ++ s .bytes))
-      (cond (ltb longest (s .keep + length (s .bytes))) (Err (fault block 10 next)) (Ok (take (s .keep) base ++ s .bytes)))
-      (Err (fault block 9 next)))
+    (cond (ltb longest (s .keep + length (s .bytes))) (Err (fault block 10 next)) (Ok (take (s .keep) base ++ s .bytes)))
+    (Err (fault block 9 next)))
 
 module _ {V : Type 0} where
   -- an entry with its value: 11 where there is none for it
