@@ -10,3 +10,4 @@ mod key_calls;
 pub mod keys;
 mod last_key;
 pub mod reader;
+mod telling;
