@@ -8,3 +8,4 @@ pub mod RangeLaws
 pub mod VoidLaws
 pub mod HeaderLaws
 pub mod KeyLaws
+pub mod ReadingLaws
