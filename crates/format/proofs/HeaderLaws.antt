@@ -8,7 +8,7 @@ use native.Mathlib.Omega.{arith}
 use lib.Dec.{ltb, eqb}
 use lib.ListN.{length, getD, drop, length-append}
 use Rattle.std.proofs.shelf.Lists.{drop-at, drop-more, drop-all, drop-drop}
-use Rattle.std.proofs.shelf.Tests.{cases-lt, lt-ltb, le-ltb, ne-eqb, eq-eqb, and-left, and-right, cond-true, cond-false}
+use Rattle.std.proofs.shelf.Tests.{cases-lt, lt-ltb, le-ltb, ne-eqb, eq-eqb, and-left, and-right, cond-true, cond-false, cond-both}
 use Rattle.std.specs.declared.option.Option.the-variants.{Some, None}
 use Rattle.format.specs.Numbers.{leb, Number, readLeb}
 use Rattle.format.specs.Headers.{Header, header, readHeader, keepOf, addOf}
@@ -72,3 +72,7 @@ header-long keep add h =
       | inr p ↦ cond-false _ _ _ (and-left (ltb keep 16) (ltb add 16) (le-ltb keep 16 p))
       | inl p ↦ cond-false _ _ _ (and-right (ltb keep 16) (ltb add 16) (le-ltb add 16 (h p)))
     ]
+
+-- a header takes at least a byte
+pub header-some : (keep add : ℕ) → 0 < length (header keep add)
+header-some keep add = cond-both (ltb keep 16 && ltb add 16) ((keep + 16 * add) ∷ []) (1 ∷ leb keep ++ leb add) (λ (l : List ℕ). 0 < length l) (λ _. omega arith) (λ _. omega arith)

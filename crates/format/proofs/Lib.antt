@@ -9,3 +9,5 @@ pub mod VoidLaws
 pub mod HeaderLaws
 pub mod KeyLaws
 pub mod ReadingLaws
+pub mod EntryBack
+pub mod ReadBack

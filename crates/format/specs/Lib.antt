@@ -10,6 +10,7 @@ pub mod Void
 pub mod Buffers
 pub mod Tables
 pub mod Reading
+pub mod Sound
 pub mod Writing
 pub mod Bounds
 pub mod Automata
