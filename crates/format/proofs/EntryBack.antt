@@ -132,7 +132,7 @@ pub entry-back : {V : Type 0} (opens : List ℕ → Opened) (steps : Cursor → 
     → follows (p .last) key ≡ true → steps (p .cursor) (content area (p .start) (p .finish)) ≡ Ok (Some (v, c))
     → entryAt opens steps area p base
     ≡ entry (record { keep = shared base key; suffix = drop (shared base key) key; place = p .next + length (header (shared base key) (length key - shared base key)); ordinal = p .ordinal; value = v })
-      (record { start = p .start; finish = p .finish; next = p .next + length (delta base key); cursor = c; last = Some key; ordinal = p .ordinal + 1 })
+    (record { start = p .start; finish = p .finish; next = p .next + length (delta base key); cursor = c; last = Some key; ordinal = p .ordinal + 1 })
 entry-back opens steps base key area before behind p more v c short not-one is at ends fits f g =
     let s : Suffix = record { keep = shared base key; place = p .next + length (header (shared base key) (length key - shared base key)); bytes = drop (shared base key) key } in
     let n : s .place + length (s .bytes) ≡ p .next + length (delta base key) = omega (arith, length-append (header (shared base key) (length key - shared base key)) (drop (shared base key) key)) in

@@ -12,7 +12,7 @@ use Rattle.std.proofs.shelf.Tests.{cases-lt, lt-ltb, le-ltb, ne-eqb, eq-eqb, an
 use Rattle.std.specs.declared.option.Option.the-variants.{Some, None}
 use Rattle.format.specs.Numbers.{leb, Number, readLeb}
 use Rattle.format.specs.Headers.{Header, header, readHeader, keepOf, addOf}
-use Rattle.format.proofs.NumberLaws.{leb-reads}
+use Rattle.format.proofs.NumberLaws.{leb-reads, leb-ten}
 
 -- no byte is left
 pub head-none : (bs : List ℕ) (at : ℕ) → length bs ≤ at → readHeader (drop at bs) ≡ None
@@ -76,3 +76,9 @@ header-long keep add h =
 -- a header takes at least a byte
 pub header-some : (keep add : ℕ) → 0 < length (header keep add)
 header-some keep add = cond-both (ltb keep 16 && ltb add 16) ((keep + 16 * add) ∷ []) (1 ∷ leb keep ++ leb add) (λ (l : List ℕ). 0 < length l) (λ _. omega arith) (λ _. omega arith)
+
+-- and at most 21
+pub header-short : (keep add : ℕ) → keep < 2 ^ 64 → add < 2 ^ 64 → length (header keep add) ≤ 21
+header-short keep add k a =
+    cond-both (ltb keep 16 && ltb add 16) ((keep + 16 * add) ∷ []) (1 ∷ leb keep ++ leb add) (λ (l : List ℕ). length l ≤ 21) (λ _. omega arith)
+    (λ _. omega (arith, length-append (leb keep) (leb add), leb-ten keep k, leb-ten add a))

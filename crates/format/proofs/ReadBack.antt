@@ -7,7 +7,7 @@ use native.Mathlib.Omega.{arith}
 use lib.Dec.{ltb, eqb, leb as atMost}
 use lib.ListN.{length, take, drop, getD, length-append, length-drop}
 use Rattle.std.proofs.shelf.Bits.{shr-shr, div-add-mod'}
-use Rattle.std.proofs.shelf.Lists.{take-at, drop-at, append-nil}
+use Rattle.std.proofs.shelf.Lists.{take-at, drop-at, append-nil, length-push}
 use Rattle.std.proofs.shelf.Tests.{cond-true, cond-false, lt-ltb, le-ltb, ne-eqb, eq-eqb, and-parts, leb-true, ltb-false, ltb-true, and-from}
 use Rattle.std.specs.Finite.{nth}
 use Rattle.std.specs.declared.option.Option.{Option}
@@ -46,11 +46,11 @@ use Rattle.format.specs.Reading.{
   behind,
   readIn,
 }
-use Rattle.format.specs.Sound.{rising, shortKeys}
-use Rattle.format.specs.Tables.{Entry, word, delta, values, deltasAfter, deltas, block, blocks}
+use Rattle.format.specs.Sound.{rising, shortKeys, allowedIn, Sound, TableReadsBack}
+use Rattle.format.specs.Tables.{Entry, blockLen, word, delta, values, deltasAfter, deltas, cutFrom, cut, block, blocks, sstable}
 use Rattle.format.specs.Headers.{header}
-use Rattle.format.proofs.HeaderLaws.{header-some}
-use Rattle.format.proofs.EntryBack.{shared-less, entry-back}
+use Rattle.format.proofs.HeaderLaws.{header-some, header-short}
+use Rattle.format.proofs.EntryBack.{shared-le, shared-less, entry-back}
 
 -- a value that is given tells the whole step
 given-is : {V : Type 0} (c : Cursor) (r : Stepped V) (v : V) → valueOf r ≡ Some v → r ≡ Ok (Some (v, moved c r))
@@ -61,6 +61,15 @@ given-is c (Err f) v e = cc
 -- an entry takes at least a byte
 delta-some : (base key : List ℕ) → 0 < length (delta base key)
 delta-some base key = omega (arith, length-append (header (shared base key) (length key - shared base key)) (drop (shared base key) key), header-some (shared base key) (length key - shared base key))
+
+-- two, where its key is above the one before
+delta-two : (base key : List ℕ) → below base key ≡ true → 2 ≤ length (delta base key)
+delta-two base key b = omega (arith, length-append (header (shared base key) (length key - shared base key)) (drop (shared base key) key), header-some (shared base key) (length key - shared base key), length-drop (shared base key) key, shared-less base key b)
+
+-- and not many more than its key
+delta-short : (base key : List ℕ) → length key ≤ 512 → length (delta base key) ≤ 533
+delta-short base key h =
+    omega (arith, length-append (header (shared base key) (length key - shared base key)) (drop (shared base key) key), header-short (shared base key) (length key - shared base key) (omega (arith, shared-le base key .1)) (omega arith), length-drop (shared base key) key)
 
 -- entries of blocks, in a row
 abbrev pub flat : {V : Type 0} → List (List (Entry V)) → List (Entry V)
@@ -265,3 +274,140 @@ module _ {V : Type 0} (rule : List V → V → Bool) (bytes : List V → List �
         ∙ ap (λ (k : ℕ). border opens steps area k p) f in
         tells-entry opens steps k area (reading p) _ q e (es ++ rest) (t ∙ at-border p ∙ a) refl refl
         (inside opens steps es area (b ++ d) after′ key q k rest (is′ ∙ sym (append-assoc b d (D ++ after′))) (omega (arith, length-append b d, lb)) (omega (arith, ld)) refl r (ss .1) (λ i z. given (suc i) (omega (arith, values-length es))) go (omega arith))
+
+  -- the end marker is the end
+  at-marker : (area before after′ : List ℕ) (p : Position) → area ≡ before ++ (word 0 ++ after′) → p .next ≡ p .finish → p .finish ≡ length before → stepAt opens steps area p ≡ ended
+  at-marker area before after′ p is n f =
+      let r : drop (length before) area ≡ word 0 ++ after′ = ap (drop (length before)) is ∙ drop-at before (word 0 ++ after′) (length before) refl in
+      let l : length area ≡ length before + length (word 0 ++ after′) = ap length is ∙ length-append before (word 0 ++ after′) in
+      let b : blockAt area (length before) ≡ Ok None =
+      ap (blockIn (length before)) r
+      ∙ cond-false (eqb (length (word 0 ++ after′)) 0) _ _ (ne-eqb (length (word 0 ++ after′)) 0 (λ z. omega arith))
+      ∙ cond-false (ltb (length (word 0 ++ after′)) 4) _ _ (le-ltb (length (word 0 ++ after′)) 4 (omega arith)) in
+      cond-false (ltb (length area) (p .finish)) _ _ (le-ltb (length area) (p .finish) (omega arith))
+      ∙ cond-true (eqb (p .next) (p .finish)) _ _ (eq-eqb (p .next) (p .finish) n)
+      ∙ ap (λ (k : ℕ). border opens steps area k p) f
+      ∙ ap (loaded opens steps area (length before) p) b
+
+  -- Blocks, and then the end marker.
+  blocks-read : {bs : List (List (Entry V))} → AllGood bs → (area before after′ : List ℕ) (p : Position) (k : ℕ) → area ≡ before ++ (blocks bytes bs ++ (word 0 ++ after′))
+      → p .next ≡ p .finish → p .finish ≡ length before → rising (p .last) (flat bs) ≡ true → shortKeys (flat bs) ≡ true → length (flat bs) < k → Tells opens steps k area (reading p) (flat bs)
+  blocks-read none area before after′ p zero is n f r s h = absurd (omega arith)
+  blocks-read none area before after′ p (suc k) is n f r s h = tells-end opens steps k area (reading p) (at-marker area before after′ p is n f)
+  blocks-read (more {b = []} g gs) area before after′ p k is n f r s h = absurd (omega (arith, g .some))
+  blocks-read (more {b = e ∷ es} {bs = bs} g gs) area before after′ p k is n f r s h =
+      let b : List ℕ = block bytes (e ∷ es) in
+      let tail : List ℕ = blocks bytes bs ++ (word 0 ++ after′) in
+      let is′ : area ≡ before ++ (b ++ tail) = is ∙ ap (λ (z : List ℕ). before ++ z) (append-assoc b (blocks bytes bs) (word 0 ++ after′)) in
+      let rs = and-parts (follows (p .last) (e .key)) (rising (Some (e .key)) (es ++ flat bs)) r in
+      let rr = rising-split (e .key) es (flat bs) (rs .1) in
+      let ss = short-split (e ∷ es) (flat bs) s in
+      let lb = block-length e es g area before tail is′ in
+      whole e es g area before tail is′ p k (flat bs) n f (rs .0) (rr .0) (ss .0)
+      (λ q m qf qn ql h′. blocks-read gs area (before ++ b) after′ q m (is′ ∙ sym (append-assoc before b tail)) (qn ∙ sym qf) (omega (arith, qf, length-append before b, lb)) (ap (λ (z : Option (List ℕ)). rising z (flat bs)) ql ∙ rr .1) (ss .1) h′)
+      (omega (arith, length-append es (flat bs)))
+
+-- Cutting entries into blocks.
+module _ {V : Type 0} where
+  open-step : (os : List (Entry V)) (e : Entry V) (es : List (Entry V))
+      → cutFrom os (e ∷ es) ≡ cond (ltb blockLen (length (deltas (os ++ e ∷ [])))) ((os ++ e ∷ []) ∷ cutFrom [] es) (cutFrom (os ++ e ∷ []) es)
+  open-step [] e es = refl
+  open-step (o ∷ os) e es = refl
+
+  flat-cut : (es os : List (Entry V)) → flat (cutFrom os es) ≡ os ++ es
+  flat-cut [] [] = refl
+  flat-cut [] (o ∷ os) = refl
+  flat-cut (e ∷ es) os = ap flat (open-step os e es) ∙ by (ltb blockLen (length (deltas (os ++ e ∷ [])))) (flat-cut es []) (flat-cut es (os ++ e ∷ []))
+    where
+      by : (t : Bool) → flat (cutFrom [] es) ≡ es → flat (cutFrom (os ++ e ∷ []) es) ≡ (os ++ e ∷ []) ++ es
+          → flat (cond t ((os ++ e ∷ []) ∷ cutFrom [] es) (cutFrom (os ++ e ∷ []) es)) ≡ os ++ e ∷ es
+      by true a b = ap (λ (z : List (Entry V)). (os ++ e ∷ []) ++ z) a ∙ append-assoc os (e ∷ []) es
+      by false a b = b ∙ append-assoc os (e ∷ []) es
+
+  -- one entry more, at the end of a delta part
+  deltas-push : (prev : List ℕ) (os : List (Entry V)) (e : Entry V) → deltasAfter prev (os ++ e ∷ []) ≡ deltasAfter prev os ++ delta (lastAfter prev os) (e .key)
+  deltas-push prev [] e = append-nil (delta prev (e .key))
+  deltas-push prev (o ∷ os) e =
+      ap (λ (z : List ℕ). delta prev (o .key) ++ z) (deltas-push (o .key) os e)
+      ∙ sym (append-assoc (delta prev (o .key)) (deltasAfter (o .key) os) (delta (lastAfter (o .key) os) (e .key)))
+
+  -- entries take at least as many bytes as they are
+  one-each : (prev : List ℕ) (es : List (Entry V)) → length es ≤ length (deltasAfter prev es)
+  one-each prev [] = omega arith
+  one-each prev (e ∷ es) = omega (arith, one-each (e .key) es, delta-some prev (e .key), length-append (delta prev (e .key)) (deltasAfter (e .key) es))
+
+  blocks-long : (bytes : List V → List ℕ) (bs : List (List (Entry V))) → length (flat bs) ≤ length (blocks bytes bs)
+  blocks-long bytes [] = omega arith
+  blocks-long bytes (b ∷ bs) =
+      omega (arith, blocks-long bytes bs, one-each [] b, length-append b (flat bs), length-append (block bytes b) (blocks bytes bs), length-append (word (1 + length (bytes (values b)) + length (deltas b)) ++ 0 ∷ bytes (values b)) (deltas b))
+
+  -- each entry but a block's first takes at least two bytes
+  two-each : (prev : List ℕ) (es : List (Entry V)) → rising (Some prev) es ≡ true → 2 * length es ≤ length (deltasAfter prev es)
+  two-each prev [] r = omega arith
+  two-each prev (e ∷ es) r =
+      let rs = and-parts (below prev (e .key)) (rising (Some (e .key)) es) r in
+      omega (arith, two-each (e .key) es (rs .1), delta-two prev (e .key) (rs .0), length-append (delta prev (e .key)) (deltasAfter (e .key) es))
+
+  counted : (os : List (Entry V)) → rising None os ≡ true → 2 * length os ≤ length (deltas os) + 1
+  counted [] r = omega arith
+  counted (e ∷ es) r = omega (arith, two-each (e .key) es r, delta-some [] (e .key), length-append (delta [] (e .key)) (deltasAfter (e .key) es))
+
+  -- a front of rising entries rises, and so does what follows it
+  rising-front : (last : Option (List ℕ)) (os es : List (Entry V)) → rising last (os ++ es) ≡ true → rising last os ≡ true
+  rising-front last [] es r = refl
+  rising-front last (o ∷ os) es r =
+      let rs = and-parts (follows last (o .key)) (rising (Some (o .key)) (os ++ es)) r in
+      and-from _ _ (rs .0) (rising-front (Some (o .key)) os es (rs .1))
+
+  rising-behind : (last : Option (List ℕ)) (os es : List (Entry V)) → rising last (os ++ es) ≡ true → rising None es ≡ true
+  rising-behind last [] [] r = refl
+  rising-behind last [] (e ∷ es) r = and-parts (follows last (e .key)) (rising (Some (e .key)) es) r .1
+  rising-behind last (o ∷ os) es r = rising-behind (Some (o .key)) os es (and-parts (follows last (o .key)) (rising (Some (o .key)) (os ++ es)) r .1)
+
+  module _ (rule : List V → V → Bool) (bytes : List V → List ℕ) (opens : List ℕ → Opened) (steps : Cursor → List ℕ → Stepped V) (back : ReadsBack rule bytes opens steps) (few-bytes : Short rule bytes) where
+    abbrev Fine : List (List (Entry V)) → Type 0
+    Fine bs = AllGood rule bytes opens steps back few-bytes bs
+
+    good-block : (os : List (Entry V)) (e : Entry V) → rising None os ≡ true → length (deltas os) ≤ 4000 → length (e .key) ≤ 512 → Allowed rule (values (os ++ e ∷ [])) → Good rule bytes opens steps back few-bytes (os ++ e ∷ [])
+    good-block os e r d s a =
+        let l : length (os ++ e ∷ []) ≡ length os + 1 = length-push os e in
+        record {
+          some = omega arith;
+          few = omega (arith, counted os r);
+          small = omega (arith, ap length (deltas-push [] os e) ∙ length-append (deltas os) (delta (lastAfter [] os) (e .key)), delta-short (lastAfter [] os) (e .key) s);
+          allowed = a;
+        }
+
+    good-open : (o : Entry V) (os : List (Entry V)) → rising None (o ∷ os) ≡ true → length (deltas (o ∷ os)) ≤ 4000 → Allowed rule (values (o ∷ os)) → Good rule bytes opens steps back few-bytes (o ∷ os)
+    good-open o os r d a = record { some = omega arith; few = omega (arith, counted (o ∷ os) r); small = omega arith; allowed = a }
+
+    good-cut : (es os : List (Entry V)) → length (deltas os) ≤ 4000 → rising None (os ++ es) ≡ true → shortKeys es ≡ true → allowedIn rule (cutFrom os es) ≡ true → Fine (cutFrom os es)
+    good-cut [] [] d r s a = none
+    good-cut [] (o ∷ os) d r s a = more (good-open o os (rising-front None (o ∷ os) [] r) d (and-parts (allowedAfter rule [] (values (o ∷ os))) true a .0)) none
+    good-cut (e ∷ es) os d r s a =
+        let ss = and-parts (atMost (length (e .key)) 512) (shortKeys es) s in
+        let r′ : rising None ((os ++ e ∷ []) ++ es) ≡ true = ap (rising None) (append-assoc os (e ∷ []) es) ∙ r in
+        subst Fine (sym (open-step os e es))
+        (by (ltb blockLen (length (deltas (os ++ e ∷ [])))) refl
+        (λ a′. good-block os e (rising-front None os (e ∷ es) r) d (leb-true (length (e .key)) 512 (ss .0)) a′)
+        (λ a′. good-cut es [] (omega arith) (rising-behind None (os ++ e ∷ []) es r′) (ss .1) a′)
+        (λ d′ a′. good-cut es (os ++ e ∷ []) d′ r′ (ss .1) a′)
+        (sym (ap (allowedIn rule) (open-step os e es)) ∙ a))
+      where
+        by : (t : Bool) → ltb blockLen (length (deltas (os ++ e ∷ []))) ≡ t
+            → (Allowed rule (values (os ++ e ∷ [])) → Good rule bytes opens steps back few-bytes (os ++ e ∷ []))
+            → (allowedIn rule (cutFrom [] es) ≡ true → Fine (cutFrom [] es))
+            → (length (deltas (os ++ e ∷ [])) ≤ 4000 → allowedIn rule (cutFrom (os ++ e ∷ []) es) ≡ true → Fine (cutFrom (os ++ e ∷ []) es))
+            → allowedIn rule (cond t ((os ++ e ∷ []) ∷ cutFrom [] es) (cutFrom (os ++ e ∷ []) es)) ≡ true → Fine (cond t ((os ++ e ∷ []) ∷ cutFrom [] es) (cutFrom (os ++ e ∷ []) es))
+        by true q one rest open′ a′ = let p = and-parts (allowedAfter rule [] (values (os ++ e ∷ []))) (allowedIn rule (cutFrom [] es)) a′ in more (one (p .0)) (rest (p .1))
+        by false q one rest open′ a′ = open′ (ltb-false blockLen (length (deltas (os ++ e ∷ []))) q) a′
+
+    -- the sstable of sound entries reads back
+    pub table-back : TableReadsBack rule bytes opens steps
+    table-back es rest sound =
+        let g = good-cut es [] (omega arith) (sound .rises) (sound .short) (sound .allowed) in
+        let f : flat (cut es) ≡ es = flat-cut es [] in
+        let area : List ℕ = sstable bytes es ++ rest in
+        let n : length es < length area + 1 = omega (arith, blocks-long bytes (cut es), ap length f, length-append (blocks bytes (cut es)) (word 0), length-append (sstable bytes es) rest) in
+        let t = blocks-read rule bytes opens steps back few-bytes g area [] rest (from 0) (length area + 1) (append-assoc (blocks bytes (cut es)) (word 0) rest) refl refl (ap (rising None) f ∙ sound .rises) (ap shortKeys f ∙ sound .short) (omega (arith, n, ap length f)) in
+        t ∙ ap (λ (z : List (Entry V)). record { entries = z; ending = end }) f

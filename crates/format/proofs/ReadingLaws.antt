@@ -128,5 +128,5 @@ module _ {V : Type 0} (opens : List ℕ → Opened) (steps : Cursor → List ℕ
   step-moves area p =
       cond-both (ltb (length area) (p .finish)) _ _ (Moves area (p .next) (p .ordinal)) (λ _. tt)
       (λ _. cond-both (eqb (p .next) (p .finish)) _ _ (Moves area (p .next) (p .ordinal))
-        (λ e. later area (p .next) (p .finish) (p .ordinal) _ (omega (arith, eqb-true (p .next) (p .finish) e)) (loaded-moves area (p .finish) p (blockAt area (p .finish))))
-        (λ _. entry-moves area p (keyOf (p .last))))
+      (λ e. later area (p .next) (p .finish) (p .ordinal) _ (omega (arith, eqb-true (p .next) (p .finish) e)) (loaded-moves area (p .finish) p (blockAt area (p .finish))))
+      (λ _. entry-moves area p (keyOf (p .last))))

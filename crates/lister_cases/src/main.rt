@@ -3,8 +3,8 @@
 use std::alloc::AllocError;
 use std::alloc::Global;
 use std::io;
-use std::io::BufReader;
 use std::io::BufRead;
+use std::io::BufReader;
 use std::io::Write;
 
 fn nibble(c: u8) -> u8 {

@@ -103,11 +103,11 @@ module _ (opens : List ℕ → Opened) (steps : Cursor → List ℕ → Stepped 
         let n : q .next ≡ p′ .next = ap (λ (z : Position). z .next) (sym (s .0)) in
         record {
           text-is =
-            ap (λ (z : Standing). text′ ++ listed (count + 1) (readIn opens steps m area z)) (e .stood)
-            ∙ ap (λ (z : List ℕ). z ++ rest) (t ∙ ap (λ (z : List ℕ). text ++ line count (record { key = z; value = d .value })) key-is)
-            ∙ append-assoc text (line count (record { key = keyOf (q .last); value = d .value })) rest
-            ∙ ap (λ (z : Reading ℕ). text ++ listed count z) (sym r)
-            ∙ inv;
+              ap (λ (z : Standing). text′ ++ listed (count + 1) (readIn opens steps m area z)) (e .stood)
+              ∙ ap (λ (z : List ℕ). z ++ rest) (t ∙ ap (λ (z : List ℕ). text ++ line count (record { key = z; value = d .value })) key-is)
+              ∙ append-assoc text (line count (record { key = keyOf (q .last); value = d .value })) rest
+              ∙ ap (λ (z : Reading ℕ). text ++ listed count z) (sym r)
+              ∙ inv;
           stands = s .1;
           inside = omega (arith, o .inside, n);
           behind-it = omega (arith, o .further, n);

@@ -8,6 +8,7 @@ ghost use Rattle.std.specs.Vec.{made};
 ghost use Rattle.format.specs.Monotonic.{u64Opens, u64Steps};
 ghost use Rattle.format.specs.Reading.{readArea};
 ghost use Rattle.listing.specs.Listing.{listed, listing as listingOf};
+
 mod text;
 
 use block::found::Delta;

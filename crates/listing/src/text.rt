@@ -41,7 +41,13 @@ fn push_key(text: &mut Vec<u8>, key: &[u8]) -> Result<(), AllocError>
 }
 
 // The line of an entry.
-pub(crate) fn push_line(heap: Global, text: &mut Vec<u8>, ordinal: u64, key: &[u8], value: u64) -> Result<(), AllocError>
+pub(crate) fn push_line(
+    heap: Global,
+    text: &mut Vec<u8>,
+    ordinal: u64,
+    key: &[u8],
+    value: u64,
+) -> Result<(), AllocError>
     ensures { λ r. ⌜ made r (λ _. vec-items (now (text .exit)) ≡ vec-items (now (text .entry)) ++ line ordinal (record { key = now (key .entry); value = value })) ⌝ }
 {
     push_number(heap, text, ordinal)?;
@@ -64,7 +70,11 @@ pub(crate) fn push_end(heap: Global, text: &mut Vec<u8>, count: u64) -> Result<(
 }
 
 // The last line, at a fault.
-pub(crate) fn push_fault(heap: Global, text: &mut Vec<u8>, fault: ReadFault) -> Result<(), AllocError>
+pub(crate) fn push_fault(
+    heap: Global,
+    text: &mut Vec<u8>,
+    fault: ReadFault,
+) -> Result<(), AllocError>
     ensures { λ r. ⌜ made r (λ _. vec-items (now (text .exit)) ≡ vec-items (now (text .entry)) ++ faultLine (ofRead fault)) ⌝ }
 {
     text.extend_from_slice(b"fault\t")?;

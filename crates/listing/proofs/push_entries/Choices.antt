@@ -12,7 +12,7 @@ use Rattle.listing.proofs.push_entries.Given as given
 abbrev pub Inv-loop-next : given.InvT-loop-next
 Inv-loop-next l =
     (vec-items (l .text) ++ listed (l .count) (readIn u64Opens u64Steps (length (l .area) + 1 - l .count) (l .area) (standing (l .reader)))
-      ≡ vec-items (l .entry .text) ++ listed 0 (readArea u64Opens u64Steps (l .area)))
+    ≡ vec-items (l .entry .text) ++ listed 0 (readArea u64Opens u64Steps (l .area)))
     × (standing (l .reader) ≡ reading (positionOf (l .reader)))
     × (positionOf (l .reader) .next ≤ length (l .area))
     × (l .count ≤ positionOf (l .reader) .next)
