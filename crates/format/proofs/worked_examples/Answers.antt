@@ -1,10 +1,11 @@
 use mathlib.Core.Path.{refl}
 use Rattle.format.specs.Numbers.{leb}
+use Rattle.format.specs.Worked.{Worked}
 use Rattle.format.proofs.worked_examples.Needs as need
 
-pub returns : need.returns
+worked : Worked
 unfolding leb
-returns c = record {
+worked = record {
   number127 = refl;
   number128 = refl;
   numberMost = refl;
@@ -38,3 +39,6 @@ returns c = record {
   fallLeft = refl;
   fallRuns = refl;
 }
+
+pub returns : need.returns
+returns c = record { table = worked; count = refl }
