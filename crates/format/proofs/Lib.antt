@@ -11,3 +11,4 @@ pub mod KeyLaws
 pub mod ReadingLaws
 pub mod EntryBack
 pub mod ReadBack
+pub mod TakenSound

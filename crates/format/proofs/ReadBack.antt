@@ -309,7 +309,7 @@ module _ {V : Type 0} (rule : List V → V → Bool) (bytes : List V → List �
 
 -- Cutting entries into blocks.
 module _ {V : Type 0} where
-  open-step : (os : List (Entry V)) (e : Entry V) (es : List (Entry V))
+  pub open-step : (os : List (Entry V)) (e : Entry V) (es : List (Entry V))
       → cutFrom os (e ∷ es) ≡ cond (ltb blockLen (length (deltas (os ++ e ∷ [])))) ((os ++ e ∷ []) ∷ cutFrom [] es) (cutFrom (os ++ e ∷ []) es)
   open-step [] e es = refl
   open-step (o ∷ os) e es = refl
