@@ -1,5 +1,7 @@
 // Writing sstables.
+mod checks;
 pub mod fault;
+mod flush;
 pub mod keys;
 mod limits;
 pub mod phase;
