@@ -12,7 +12,7 @@ use Rattle.std.proofs.shelf.Tests.{lt-ltb, le-ltb, ltb-true, cond-true, cond-fa
 use Rattle.format.specs.Buffers.{written}
 use Rattle.format.specs.Codecs.{Allowed, Short, takes, most}
 use Rattle.format.specs.Tables.{word, blockLen}
-use Rattle.format.proofs.BufferLaws.{written-part}
+use Rattle.format.proofs.BufferLaws.{written-none, written-part, written-then}
 use Rattle.format.proofs.CodecLaws.{allowed-push}
 use Rattle.writer.specs.Parts.{block, entry, before}
 use Rattle.writer.specs.States.{rest}
@@ -116,3 +116,13 @@ grown-length ds last key p l n e a b q f =
     let h = ap (λ (z : List ℕ). length (entry z key)) q in
     let m = length-append ds (entry (before ds last) key) in
     omega arith
+
+-- two pieces, one behind the other, as the code comes to them
+pub written-again : (out mid last a a′ b : List ℕ) (at next : ℕ) → a′ ≡ a → mid ≡ written out at a′ → next ≡ at + length a′ → last ≡ written mid next b → at ≤ length out → last ≡ written out at (a ++ b)
+written-again out mid last a a′ b at next s e n f h = f ∙ written-then out mid at next a′ b e n h ∙ ap (λ (z : List ℕ). written out at (z ++ b)) s
+
+-- a delta part that is not long is not flushed
+pub nothing-flushed : (out vs ds ds′ : List ℕ) (at n l : ℕ) → ds′ ≡ ds → n ≡ l → l ≡ length ds′ → n ≤ 4000 → out ≡ written out at (cond (ltb blockLen (length ds)) (block vs ds) [])
+nothing-flushed out vs ds ds′ at n l e f q h =
+    let m = ap length e in
+    sym (ap (written out at) (cond-false (ltb blockLen (length ds)) (block vs ds) [] (le-ltb blockLen (length ds) (omega arith))) ∙ written-none out at)

@@ -1,7 +1,7 @@
 // What is written behind the bytes of the output that are written already.
 ghost use mathlib.Core.Path.{_≡_};
 ghost use mathlib.Core.List.{List, [], _∷_};
-ghost use Prim.Native.Nat.{ℕ, _+_, _-_, _≤_};
+ghost use Prim.Native.Nat.{ℕ, _+_, _-_, _*_, _≤_};
 ghost use lib.ListN.{length};
 ghost use Rattle.format.specs.Buffers.{written};
 ghost use Rattle.format.specs.Tables.{word as fourBytes};
@@ -57,7 +57,7 @@ pub(crate) fn flush_rest<C: Codec>(
     requires within { ⌜ at ≤ length (now output) ⌝ }
     requires room { ⌜ length (restOf (C·Codec .bytes) (C·Codec .list (now codec)) (now delta)) ≤ length (now output) - at ⌝ }
     ensures value { λ r. ⌜ r ≡ at + length (restOf (C·Codec .bytes) (C·Codec .list (now (codec .entry))) (now (delta .entry))) ⌝ }
-    ensures grows { λ r. ⌜ at + length (now (delta .entry)) ≤ r ⌝ }
+    ensures grows { λ r. ⌜ 4533 * at + 4538 * length (now (delta .entry)) ≤ 4533 * r ⌝ }
     ensures fits { λ r. ⌜ r ≤ length (now (output .entry)) ⌝ }
     ensures after { λ _. ⌜ now (output .exit) ≡ written (now (output .entry)) at (restOf (C·Codec .bytes) (C·Codec .list (now (codec .entry))) (now (delta .entry))) ⌝ }
 {

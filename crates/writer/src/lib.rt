@@ -1,4 +1,5 @@
 // Writing sstables.
+mod calls;
 mod checks;
 pub mod fault;
 mod flush;
