@@ -67,6 +67,11 @@ phaseTest WaitsForKey InsertKey ordinal = Ok tt
 phaseTest WaitsForKey InsertValue ordinal = Err (fault call 22 ordinal)
 phaseTest WaitsForKey Finish ordinal = Ok tt
 
+abbrev pub RoomIn : Phase → ℕ → ℕ → Type 0
+RoomIn WaitsForKey due answer = (due ≤ answer) × (answer ≤ due + 16)
+RoomIn WaitsForValue due answer = (due ≤ answer) × (answer ≤ due + 16)
+RoomIn Finished due answer = answer ≡ 0
+
 module _ {V : Type 0} where
   abbrev pub fresh : State V
   fresh = record { phase = WaitsForKey; last = []; waiting = []; delta = []; vals = []; end = 0; ordinal = 0 }
@@ -128,11 +133,6 @@ module _ {V : Type 0} (bytes : List V → List ℕ) where
   writes s (insertKey k) = []
   writes s (insertValue v) = flushed s (s .waiting) v
   writes s finish = ending s
-
-  abbrev pub RoomIn : Phase → ℕ → ℕ → Type 0
-  RoomIn WaitsForKey due answer = (due ≤ answer) × (answer ≤ due + 16)
-  RoomIn WaitsForValue due answer = (due ≤ answer) × (answer ≤ due + 16)
-  RoomIn Finished due answer = answer ≡ 0
 
   -- an answer to the question for room: what a finish writes or at most 16 more; 0 when finished
   abbrev pub Room : State V → ℕ → Type 0

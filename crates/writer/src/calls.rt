@@ -10,14 +10,13 @@ ghost use Rattle.format.specs.Buffers.{written};
 ghost use Rattle.format.specs.Codecs.{takes};
 ghost use Rattle.format.specs.Faults.{told};
 ghost use Rattle.format.specs.Writing.{insert as anInsert, insertKey as anInsertKey, insertValue as anInsertValue, finish as aFinish};
-ghost use Rattle.writer.specs.States.{state, fresh, holds, flushed as flushedBy, ending, tookEntry, ended, next as nextState, writes, answer as answerOf, Room};
+ghost use Rattle.writer.specs.States.{state, fresh, holds, flushed as flushedBy, ending, tookEntry, ended, next as nextState, writes, answer as answerOf};
 ghost use Rattle.writer.specs.Told.{ofWriter};
 use crate::fault::WriterFault;
 use crate::flush::flush_block;
 use crate::flush::flush_rest;
 use crate::flush::write_end;
 use crate::keys::push_key;
-use crate::limits::BLOCK_HEAD_LEN;
 use crate::limits::BLOCK_LEN;
 use crate::limits::DELTA_CAPACITY;
 use crate::limits::KEY_MAX_LEN;
@@ -99,5 +98,59 @@ impl<C: Codec> Writer<C> {
         self.codec.clear();
         self.waiting.clear();
         self.phase = Phase::Finished;
+    }
+
+    // Takes an entry, and flushes the block if its delta part becomes long.
+    pub fn insert(
+        &mut self,
+        key: &[u8],
+        value: C::Value,
+        output: &mut [u8],
+    ) -> Result<(), WriterFault>
+        ensures answer { λ r. ⌜ told ofWriter r ≡ answerOf (C·Codec .rule) (C·Codec .bytes) (state (C·Codec .list) (now (self .entry))) (anInsert (now (key .entry)) value) (length (now (output .entry))) ⌝ }
+        ensures after { λ r. ⌜ state (C·Codec .list) (now (self .exit)) ≡ cond (isOk r) (nextState (C·Codec .bytes) (state (C·Codec .list) (now (self .entry))) (anInsert (now (key .entry)) value)) (state (C·Codec .list) (now (self .entry))) ⌝ }
+        ensures output { λ r. ⌜ now (output .exit) ≡ cond (isOk r) (written (now (output .entry)) (now (self .entry) .end) (writes (C·Codec .bytes) (state (C·Codec .list) (now (self .entry))) (anInsert (now (key .entry)) value))) (now (output .entry)) ⌝ }
+    {
+        self.check_phase(Kind::Insert)?;
+        self.check_key(key)?;
+        self.check_entry(key, value, output.len())?;
+        self.hold(key);
+        self.take_entry(value, output);
+        Ok(())
+    }
+
+    // Takes a key, whose value has to come next.
+    pub fn insert_key(&mut self, key: &[u8]) -> Result<(), WriterFault>
+        ensures answer { λ r. ⌜ told ofWriter r ≡ answerOf (C·Codec .rule) (C·Codec .bytes) (state (C·Codec .list) (now (self .entry))) (anInsertKey (now (key .entry))) 0 ⌝ }
+        ensures after { λ r. ⌜ state (C·Codec .list) (now (self .exit)) ≡ cond (isOk r) (nextState (C·Codec .bytes) (state (C·Codec .list) (now (self .entry))) (anInsertKey (now (key .entry)))) (state (C·Codec .list) (now (self .entry))) ⌝ }
+    {
+        self.check_phase(Kind::InsertKey)?;
+        self.check_key(key)?;
+        self.hold(key);
+        Ok(())
+    }
+
+    // Takes the value of the waiting key, and flushes the block if its delta part is long then.
+    pub fn insert_value(&mut self, value: C::Value, output: &mut [u8]) -> Result<(), WriterFault>
+        ensures answer { λ r. ⌜ told ofWriter r ≡ answerOf (C·Codec .rule) (C·Codec .bytes) (state (C·Codec .list) (now (self .entry))) (anInsertValue value) (length (now (output .entry))) ⌝ }
+        ensures after { λ r. ⌜ state (C·Codec .list) (now (self .exit)) ≡ cond (isOk r) (nextState (C·Codec .bytes) (state (C·Codec .list) (now (self .entry))) (anInsertValue value)) (state (C·Codec .list) (now (self .entry))) ⌝ }
+        ensures output { λ r. ⌜ now (output .exit) ≡ cond (isOk r) (written (now (output .entry)) (now (self .entry) .end) (writes (C·Codec .bytes) (state (C·Codec .list) (now (self .entry))) (anInsertValue value))) (now (output .entry)) ⌝ }
+    {
+        self.check_phase(Kind::InsertValue)?;
+        self.check_entry(self.waiting.as_slice(), value, output.len())?;
+        self.take_entry(value, output);
+        Ok(())
+    }
+
+    // Writes what is left, and the end marker.
+    pub fn finish(&mut self, output: &mut [u8]) -> Result<(), WriterFault>
+        ensures answer { λ r. ⌜ told ofWriter r ≡ answerOf (C·Codec .rule) (C·Codec .bytes) (state (C·Codec .list) (now (self .entry))) aFinish (length (now (output .entry))) ⌝ }
+        ensures after { λ r. ⌜ state (C·Codec .list) (now (self .exit)) ≡ cond (isOk r) (nextState (C·Codec .bytes) (state (C·Codec .list) (now (self .entry))) aFinish) (state (C·Codec .list) (now (self .entry))) ⌝ }
+        ensures output { λ r. ⌜ now (output .exit) ≡ cond (isOk r) (written (now (output .entry)) (now (self .entry) .end) (writes (C·Codec .bytes) (state (C·Codec .list) (now (self .entry))) aFinish)) (now (output .entry)) ⌝ }
+    {
+        self.check_phase(Kind::Finish)?;
+        self.check_finish(output.len())?;
+        self.close(output);
+        Ok(())
     }
 }

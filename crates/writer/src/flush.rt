@@ -28,12 +28,7 @@ fn write_block<C: Codec>(codec: &C, delta: &[u8], part: &mut [u8])
 }
 
 // Writes a block from a place on, and answers the place behind it.
-pub(crate) fn flush_block<C: Codec>(
-    codec: &C,
-    delta: &[u8],
-    output: &mut [u8],
-    at: usize,
-) -> usize
+pub(crate) fn flush_block<C: Codec>(codec: &C, delta: &[u8], output: &mut [u8], at: usize) -> usize
     requires short { ⌜ length (now delta) ≤ 4533 ⌝ }
     requires room { ⌜ length (blockOf (C·Codec .bytes (C·Codec .list (now codec))) (now delta)) ≤ length (now output) - at ⌝ }
     ensures value { λ r. ⌜ r ≡ at + length (blockOf (C·Codec .bytes (C·Codec .list (now (codec .entry)))) (now (delta .entry))) ⌝ }
@@ -47,12 +42,7 @@ pub(crate) fn flush_block<C: Codec>(
 }
 
 // Writes the open block, if it has entries, and answers the place behind it.
-pub(crate) fn flush_rest<C: Codec>(
-    codec: &C,
-    delta: &[u8],
-    output: &mut [u8],
-    at: usize,
-) -> usize
+pub(crate) fn flush_rest<C: Codec>(codec: &C, delta: &[u8], output: &mut [u8], at: usize) -> usize
     requires short { ⌜ length (now delta) ≤ 4533 ⌝ }
     requires within { ⌜ at ≤ length (now output) ⌝ }
     requires room { ⌜ length (restOf (C·Codec .bytes) (C·Codec .list (now codec)) (now delta)) ≤ length (now output) - at ⌝ }

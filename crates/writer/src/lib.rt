@@ -6,4 +6,5 @@ mod flush;
 pub mod keys;
 mod limits;
 pub mod phase;
+mod questions;
 pub mod writer;
