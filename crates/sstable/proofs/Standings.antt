@@ -90,7 +90,7 @@ before-some [] last h = absurd (omega arith)
 before-some (d ∷ ds) last h = refl
 
 module _ {V : Type 0} where
-  deltas-some : (o : Entry V) (os : List (Entry V)) → 0 < length (deltas (o ∷ os))
+  pub deltas-some : (o : Entry V) (os : List (Entry V)) → 0 < length (deltas (o ∷ os))
   deltas-some o os = omega (arith, delta-length [] (o .key), length-append (delta [] (o .key)) (deltasAfter (o .key) os))
 
   -- the last key, by how many entries there are
