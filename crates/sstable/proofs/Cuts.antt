@@ -46,9 +46,9 @@ module _ {V : Type 0} where
   cut-from os (e ∷ es) =
       cut-choice os e es
       ∙ chosen-both (λ (x : List (List (Entry V))) (z : List (Entry V)). x ++ cutFrom z []) (closes os e)
-        ((os ++ e ∷ []) ∷ cutFrom [] es) (cutFrom (os ++ e ∷ []) es)
-        ((os ++ e ∷ []) ∷ closedFrom [] es) (closedFrom (os ++ e ∷ []) es) (openFrom [] es) (openFrom (os ++ e ∷ []) es)
-        (ap (λ (z : List (List (Entry V))). (os ++ e ∷ []) ∷ z) (cut-from [] es)) (cut-from (os ++ e ∷ []) es)
+      ((os ++ e ∷ []) ∷ cutFrom [] es) (cutFrom (os ++ e ∷ []) es)
+      ((os ++ e ∷ []) ∷ closedFrom [] es) (closedFrom (os ++ e ∷ []) es) (openFrom [] es) (openFrom (os ++ e ∷ []) es)
+      (ap (λ (z : List (List (Entry V))). (os ++ e ∷ []) ∷ z) (cut-from [] es)) (cut-from (os ++ e ∷ []) es)
 
   -- one entry more
   pub open-push : (ts : List (Entry V)) (e : Entry V) → openBlock (ts ++ e ∷ []) ≡ cond (closes (openBlock ts) e) [] (openBlock ts ++ e ∷ [])

@@ -1,3 +1,4 @@
 pub mod Cuts
 pub mod Standings
 pub mod Steps
+pub mod History

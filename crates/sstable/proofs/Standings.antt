@@ -77,8 +77,8 @@ shared-less (a ∷ p) [] h = let z : _≡_ {A = ℕ} 0 1 = cc in absurd (omega a
 shared-less (a ∷ p) (b ∷ k) h =
     cond-both (eqb a b) (suc (shared p k)) 0 (λ (n : ℕ). n < suc (length k))
     (λ e.
-      let r : below (a ∷ p) (b ∷ k) ≡ below p k = cond-false (ltb a b) true _ (le-ltb a b (omega (arith, eqb-true a b e))) ∙ cond-true (eqb a b) (below p k) false e in
-      omega (arith, shared-less p k (sym r ∙ h)))
+    let r : below (a ∷ p) (b ∷ k) ≡ below p k = cond-false (ltb a b) true _ (le-ltb a b (omega (arith, eqb-true a b e))) ∙ cond-true (eqb a b) (below p k) false e in
+    omega (arith, shared-less p k (sym r ∙ h)))
     (λ e. omega arith)
 
 and-true : (t : Bool) → (t && true) ≡ t

@@ -120,7 +120,7 @@ module _ {V : Type 0} (bytes : List V → List ℕ) where
 
   took-case : (ts os : List (Entry V)) (e : Entry V) (t : Bool)
       → cond t (tookState ts (e .key) [] [] (length (closedBytes bytes ts) + length (parts.block (bytes (values os ++ e .value ∷ [])) (deltas (os ++ e ∷ [])))))
-        (tookState ts (e .key) (deltas (os ++ e ∷ [])) (values os ++ e .value ∷ []) (length (closedBytes bytes ts)))
+      (tookState ts (e .key) (deltas (os ++ e ∷ [])) (values os ++ e .value ∷ []) (length (closedBytes bytes ts)))
       ≡ tookState ts (e .key) (deltas (cond t [] (os ++ e ∷ []))) (values (cond t [] (os ++ e ∷ []))) (length (closedBytes bytes ts) + length (cond t (block bytes (os ++ e ∷ [])) []))
   took-case ts os e true = ap (λ (b : List ℕ). tookState ts (e .key) [] [] (length (closedBytes bytes ts) + length b)) (block-is os (e .value) e refl)
   took-case ts os e false =

@@ -98,7 +98,7 @@ module _ {V : Type 0} where
   holds s k = record { phase = WaitsForValue; last = s .last; waiting = k; delta = s .delta; vals = s .vals; end = s .end; ordinal = s .ordinal }
 
 module _ {V : Type 0} (bytes : List V → List ℕ) where
-  -- what an entry flushes: the block, if its delta part passes 4,000 bytes
+  -- what an entry flushes: the block, if its delta part then has more than 4,000 bytes
   abbrev pub flushed : State V → List ℕ → V → List ℕ
   flushed s k v = cond (ltb blockLen (length (grown s k))) (block (bytes (s .vals ++ v ∷ [])) (grown s k)) []
 
