@@ -41,7 +41,7 @@ module _ {V : Type 0} where
   cut-choice [] e es = refl
   cut-choice (o ∷ os) e es = refl
 
-  cut-from : (os es : List (Entry V)) → cutFrom os es ≡ closedFrom os es ++ cutFrom (openFrom os es) []
+  pub cut-from : (os es : List (Entry V)) → cutFrom os es ≡ closedFrom os es ++ cutFrom (openFrom os es) []
   cut-from os [] = refl
   cut-from os (e ∷ es) =
       cut-choice os e es
@@ -53,6 +53,9 @@ module _ {V : Type 0} where
   -- one entry more
   pub open-push : (ts : List (Entry V)) (e : Entry V) → openBlock (ts ++ e ∷ []) ≡ cond (closes (openBlock ts) e) [] (openBlock ts ++ e ∷ [])
   open-push ts e = open-more [] ts (e ∷ [])
+
+  pub closed-blocks-push : (ts : List (Entry V)) (e : Entry V) → closedBlocks (ts ++ e ∷ []) ≡ closedBlocks ts ++ cond (closes (openBlock ts) e) ((openBlock ts ++ e ∷ []) ∷ []) []
+  closed-blocks-push ts e = closed-more [] ts (e ∷ [])
 
   pub values-push : (os : List (Entry V)) (e : Entry V) → values (os ++ e ∷ []) ≡ values os ++ e .value ∷ []
   values-push [] e = refl
@@ -80,7 +83,7 @@ module _ {V : Type 0} (bytes : List V → List ℕ) where
   -- the closed blocks with one entry more
   pub closed-push : (ts : List (Entry V)) (e : Entry V) → closedBytes bytes (ts ++ e ∷ []) ≡ closedBytes bytes ts ++ cond (closes (openBlock ts) e) (block bytes (openBlock ts ++ e ∷ [])) []
   closed-push ts e =
-      ap (blocks bytes) (closed-more [] ts (e ∷ []))
+      ap (blocks bytes) (closed-blocks-push ts e)
       ∙ blocks-more (closedBlocks ts) (cond (closes (openBlock ts) e) ((openBlock ts ++ e ∷ []) ∷ []) [])
       ∙ ap (λ (z : List ℕ). closedBytes bytes ts ++ z) (closed-one (closes (openBlock ts) e) (openBlock ts ++ e ∷ []))
 

@@ -44,16 +44,16 @@ err-told f (Ok x) g h = cc
 err-told f (Err e) g h = refl
 
 module _ {V : Type 0} (rule : List V → V → Bool) (bytes : List V → List ℕ) where
-  called-none : (room : ℕ) (w : Written V) (c : Call V) → refusal rule bytes w c room ≡ None → called rule bytes room w c ≡ accepted w c
+  pub called-none : (room : ℕ) (w : Written V) (c : Call V) → refusal rule bytes w c room ≡ None → called rule bytes room w c ≡ accepted w c
   called-none room w c h = ap (λ (f : Option Fault). elim f [ None ↦ accepted w c | Some g ↦ w ]) h
 
-  called-some : (room : ℕ) (w : Written V) (c : Call V) (g : Fault) → refusal rule bytes w c room ≡ Some g → called rule bytes room w c ≡ w
+  pub called-some : (room : ℕ) (w : Written V) (c : Call V) (g : Fault) → refusal rule bytes w c room ≡ Some g → called rule bytes room w c ≡ w
   called-some room w c g h = ap (λ (f : Option Fault). elim f [ None ↦ accepted w c | Some g ↦ w ]) h
 
   abbrev pub Kept : ℕ → Written V → Type 0
   Kept room w = Holds bytes room (w .taken) (w .waits)
 
-  kept-case : (room : ℕ) (w : Written V) (c : Call V) (f : Option Fault) → refusal rule bytes w c room ≡ f → Kept room w → Kept room (called rule bytes room w c)
+  pub kept-case : (room : ℕ) (w : Written V) (c : Call V) (f : Option Fault) → refusal rule bytes w c room ≡ f → Kept room w → Kept room (called rule bytes room w c)
   kept-case room w c None h k = subst (Kept room) (sym (called-none room w c h)) (after-is rule bytes room (w .taken) (w .waits) c k h .holds)
   kept-case room w c (Some g) h k = subst (Kept room) (sym (called-some room w c g h)) k
 
@@ -61,7 +61,7 @@ module _ {V : Type 0} (rule : List V → V → Bool) (bytes : List V → List �
   kept-all room [] w k = k
   kept-all room (c ∷ cs) w k = kept-all room cs (called rule bytes room w c) (kept-case room w c (refusal rule bytes w c room) refl k)
 
-  kept-new : (room : ℕ) → Kept room new
+  pub kept-new : (room : ℕ) → Kept room new
   kept-new room = record { within = omega arith; open-is = record { short = omega arith; sparse = omega arith; lastly = λ h. absurd (omega arith) }; rising = tt }
 
   -- one call more

@@ -153,11 +153,11 @@ module _ {V : Type 0} where
   pub open-taken : (ts : List (Entry V)) (e : Entry V) → Open ts (openBlock ts) → follows (writing.lastKey ts) (e .key) ≡ true → Open (ts ++ e ∷ []) (openBlock (ts ++ e ∷ []))
   open-taken ts e o f = subst (Open (ts ++ e ∷ [])) (sym (open-push ts e)) (open-case ts (openBlock ts) e (closes (openBlock ts) e) refl o f)
 
-  -- so a codec is never full
-  length-values : (os : List (Entry V)) → length (values os) ≡ length os
+  pub length-values : (os : List (Entry V)) → length (values os) ≡ length os
   length-values [] = refl
   length-values (o ∷ os) = ap suc (length-values os)
 
+  -- so a codec is never full
   pub never-full : (rule : List V → V → Bool) (ts os : List (Entry V)) (v : V) → Open ts os → takes rule (values os) v ≡ rule (values os) v
   never-full rule ts os v o =
       let l : length (values os) < 2001 = omega (arith, length-values os, o .sparse, o .short) in

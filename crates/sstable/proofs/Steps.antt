@@ -57,15 +57,15 @@ due-is true room end m b f h e = fits-is room end (length b) m f h e
 due-is false room end m b f h e = ap (fitsOr f) (le-ltb (room - end) 0 (omega arith))
 
 -- what was not refused
-none-first : (a b : Option Fault) → first a b ≡ None → (a ≡ None) × (b ≡ None)
+pub none-first : (a b : Option Fault) → first a b ≡ None → (a ≡ None) × (b ≡ None)
 none-first None b h = (refl, h)
 none-first (Some f) b h = (h, cc)
 
-none-if : (t : Bool) (f : Fault) (a : Option Fault) → cond t (Some f) a ≡ None → (t ≡ false) × (a ≡ None)
+pub none-if : (t : Bool) (f : Fault) (a : Option Fault) → cond t (Some f) a ≡ None → (t ≡ false) × (a ≡ None)
 none-if true f a h = (cc, cc)
 none-if false f a h = (refl, h)
 
-none-unless : (t : Bool) (a : Option Fault) (f : Fault) → cond t a (Some f) ≡ None → (t ≡ true) × (a ≡ None)
+pub none-unless : (t : Bool) (a : Option Fault) (f : Fault) → cond t a (Some f) ≡ None → (t ≡ true) × (a ≡ None)
 none-unless true a f h = (refl, h)
 none-unless false a f h = (cc, cc)
 
@@ -221,7 +221,7 @@ module _ {V : Type 0} (rule : List V → V → Bool) (bytes : List V → List �
     pub added : outputIn bytes ts s ++ states.writes bytes (stateIn bytes ts s) c ≡ writing.output bytes (acceptedIn ts s c)
     pub holds : Holds bytes room (acceptedIn ts s c .taken) (acceptedIn ts s c .waits)
 
-  key-follows : (ts : List (Entry V)) (k : List ℕ) → writing.keyRefusal ts k ≡ None → follows (writing.lastKey ts) k ≡ true
+  pub key-follows : (ts : List (Entry V)) (k : List ℕ) → writing.keyRefusal ts k ≡ None → follows (writing.lastKey ts) k ≡ true
   key-follows ts k h =
       none-unless (follows (writing.lastKey ts) k) None (fault call 2 (length ts))
       (none-if (ltb longest (length k)) (fault call 1 (length ts)) (cond (follows (writing.lastKey ts) k) None (Some (fault call 2 (length ts)))) h .1) .0
