@@ -70,6 +70,18 @@ fn put_numbers(buf: &mut [u8], keep: u64, add: u64) -> usize
     vint::serialize(add, buf, n).unwrap_or(0)
 }
 
+// How many bytes the header of a key takes.
+pub fn header_len(keep_len: usize, add_len: usize) -> usize
+    ensures value { λ r. ⌜ r ≡ length (header «keep_len» «add_len») ⌝ }
+    ensures some { λ r. ⌜ 0 < r ⌝ }
+    ensures within { λ r. ⌜ r ≤ 21 ⌝ }
+{
+    if keep_len < FOUR_BIT_LIMIT && add_len < FOUR_BIT_LIMIT {
+        return 1;
+    }
+    1 + vint::serialized_len(keep_len as u64) + vint::serialized_len(add_len as u64)
+}
+
 // Puts a header behind what `block` holds, or leaves it as it was where there is no memory.
 pub fn encode_keep_add(
     block: &mut Vec<u8>,
@@ -78,6 +90,7 @@ pub fn encode_keep_add(
 ) -> Result<(), AllocError>
     ensures after { λ r. ⌜ vec-items (now (block .exit)) ≡ cond (isOk r) (vec-items (now (block .entry)) ++ header «keep_len» «add_len») (vec-items (now (block .entry))) ⌝ }
     ensures succeeds { λ r. ⌜ Cases r (λ _. Unit {0}) (λ _. vec-cap (now (block .entry)) < vec-len (now (block .entry)) + 21) ⌝ }
+    ensures capacity { λ _. ⌜ vec-cap (now (block .entry)) ≤ vec-cap (now (block .exit)) ⌝ }
 {
     if keep_len < FOUR_BIT_LIMIT && add_len < FOUR_BIT_LIMIT {
         block.extend_from_slice(&[(keep_len + 16 * add_len) as u8])?;

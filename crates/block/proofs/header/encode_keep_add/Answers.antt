@@ -25,4 +25,4 @@ returns c =
     let a = c .args .add-len in
     let l : header k a ≡ 1 ∷ leb k ++ leb a = header-long k a (λ h. omega arith) in
     let f = front (c .put-numbers-len .last .buf) (c .put-numbers-len .result) (leb k ++ leb a) (c .put-numbers-len .ensures .after) (c .put-numbers-len .ensures .value) in
-    record { after = c .in-Continue-extend-from-slice-2 .ensures tt .items ∙ ap (λ (t : List ℕ). vec-items (c .args .block .now) ++ t) (f ∙ sym l); succeeds = tt }
+    record { after = c .in-Continue-extend-from-slice-2 .ensures tt .items ∙ ap (λ (t : List ℕ). vec-items (c .args .block .now) ++ t) (f ∙ sym l); succeeds = tt; capacity = c .extend-from-slice-2 .ensures .capacity }

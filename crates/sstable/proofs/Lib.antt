@@ -1,0 +1,5 @@
+pub mod Cuts
+pub mod Standings
+pub mod Steps
+pub mod History
+pub mod Sound

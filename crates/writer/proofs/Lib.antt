@@ -1,0 +1,2 @@
+pub mod KeyParts
+pub mod BlockParts

@@ -1,0 +1,3 @@
+pub mod Told
+pub mod Parts
+pub mod States
