@@ -52,6 +52,12 @@ module _ {V : Type 0} (rule : List V → V → Bool) (bytes : List V → List �
   Holds buffer (r ∷ rs) [] = ⊥
 
 module _ {V : Type 0} (rule : List V → V → Bool) (bytes : List V → List ℕ) (opens : List ℕ → Opened) (steps : Cursor → List ℕ → Stepped V) where
+  -- Once a finish was accepted, the reading of the output is the taken entries, and then the end.
+  abbrev pub ReadsTaken : List ℕ → List (Call V) → List ℕ → Type 0
+  ReadsTaken old cs left =
+      writer rule bytes (length old) cs .waits ≡ finished
+      → readArea opens steps left ≡ record { entries = writer rule bytes (length old) cs .taken; ending = end }
+
   -- Writing and streaming: of the sstable of a finished writer, with any bytes behind it, every stream gives the passing
   -- entries, whatever the bounds and the automaton.
   abbrev pub WritingAndStreaming : Type 0

@@ -2,4 +2,4 @@ pub mod Cuts
 pub mod Standings
 pub mod Steps
 pub mod History
-pub mod Sound
+pub mod Readings

@@ -6,9 +6,10 @@ ghost use Prim.Native.Nat.{ℕ};
 ghost use lib.ListN.{length};
 ghost use Rattle.std.specs.Of.Vec.{vec-items};
 ghost use Rattle.std.specs.Results.{Cases, isOk};
+ghost use Rattle.std.specs.Vec.{made};
 ghost use Rattle.format.specs.Buffers.{written};
 ghost use Rattle.format.specs.Faults.{told};
-ghost use Rattle.format.specs.Laws.{Writes};
+ghost use Rattle.format.specs.Laws.{Writes, ReadsTaken};
 ghost use Rattle.writer.specs.States.{state, next as nextState, writes, answer as answerOf};
 ghost use Rattle.writer.specs.Told.{ofWriter};
 ghost use Rattle.sstable.specs.Calls.{callOf};
@@ -44,7 +45,8 @@ pub fn run_calls<C: Codec + Drop>(
     calls: &[Call<'_, C::Value>],
     output: &mut [u8],
 ) -> Result<Vec<Result<(), WriterFault>>, AllocError>
-    ensures { λ r. ⌜ Cases r (λ got. Writes (C·Codec .rule) (C·Codec .bytes) (now (output .entry)) (map callOf (now (calls .entry))) (map (told ofWriter) (vec-items got)) (now (output .exit))) (λ _. now (output .exit) ≡ now (output .entry)) ⌝ }
+    ensures writing { λ r. ⌜ Cases r (λ got. Writes (C·Codec .rule) (C·Codec .bytes) (now (output .entry)) (map callOf (now (calls .entry))) (map (told ofWriter) (vec-items got)) (now (output .exit))) (λ _. now (output .exit) ≡ now (output .entry)) ⌝ }
+    ensures reading { λ r. ⌜ made r (λ _. ReadsTaken (C·Codec .rule) (C·Codec .bytes) (C·Codec .opens) (C·Codec .steps) (now (output .entry)) (map callOf (now (calls .entry))) (now (output .exit))) ⌝ }
 {
     let mut answers = Vec::with_capacity(heap, calls.len())?;
     let mut writer = Writer::<C>::new(heap)?;

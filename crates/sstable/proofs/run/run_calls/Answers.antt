@@ -10,6 +10,7 @@ use Rattle.writer.specs.States.{state}
 use Rattle.writer.specs.Told.{ofWriter}
 use Rattle.sstable.specs.Calls.{callOf}
 use Rattle.sstable.proofs.History.{ran-none, ran-more, ran-same, ran-writes}
+use Rattle.sstable.proofs.Readings.{reads-taken}
 use Rattle.sstable.proofs.run.run_calls.Needs as need
 
 pub push-reserved-requires : need.push-reserved-requires
@@ -44,5 +45,9 @@ returns g c =
     let m = g .C·Codec in
     let xs = c .args .calls .now in
     let all : map callOf xs ≡ map callOf (take (c .loop-call .call-index) xs) = ap (map callOf) (sym (take-all _ xs (c .loop-call-test .left))) in
-    ran-writes (m .rule) (m .bytes) (c .args .output .now) (map callOf xs) _ (state (m .list) (c .loop-call .writer)) (c .loop-call .output)
-    (ran-same (m .rule) (m .bytes) (c .args .output .now) _ _ _ _ _ _ all refl (c .loop-call .inv .2))
+    let w = ran-writes (m .rule) (m .bytes) (c .args .output .now) (map callOf xs) _ (state (m .list) (c .loop-call .writer)) (c .loop-call .output)
+    (ran-same (m .rule) (m .bytes) (c .args .output .now) _ _ _ _ _ _ all refl (c .loop-call .inv .2)) in
+    record {
+      writing = w;
+      reading = reads-taken (m .rule) (m .bytes) (m .opens) (m .steps) (g .C·Codec·met .back) (g .C·Codec·met .short) (c .args .output .now) (map callOf xs) (c .loop-call .output) (w .bytesLeft);
+    }
