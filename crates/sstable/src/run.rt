@@ -9,6 +9,7 @@ ghost use Rattle.std.specs.Results.{Cases, isOk};
 ghost use Rattle.std.specs.Vec.{made};
 ghost use Rattle.format.specs.Buffers.{written};
 ghost use Rattle.format.specs.Faults.{told};
+ghost use Rattle.format.specs.Sound.{TableReadsBack};
 ghost use Rattle.format.specs.Laws.{Writes, ReadsTaken};
 ghost use Rattle.writer.specs.States.{state, next as nextState, writes, answer as answerOf};
 ghost use Rattle.writer.specs.Told.{ofWriter};
@@ -46,6 +47,7 @@ pub fn run_calls<C: Codec + Drop>(
     output: &mut [u8],
 ) -> Result<Vec<Result<(), WriterFault>>, AllocError>
     ensures writing { λ r. ⌜ Cases r (λ got. Writes (C·Codec .rule) (C·Codec .bytes) (now (output .entry)) (map callOf (now (calls .entry))) (map (told ofWriter) (vec-items got)) (now (output .exit))) (λ _. now (output .exit) ≡ now (output .entry)) ⌝ }
+    ensures table { λ _. ⌜ TableReadsBack (C·Codec .rule) (C·Codec .bytes) (C·Codec .opens) (C·Codec .steps) ⌝ }
     ensures reading { λ r. ⌜ made r (λ _. ReadsTaken (C·Codec .rule) (C·Codec .bytes) (C·Codec .opens) (C·Codec .steps) (now (output .entry)) (map callOf (now (calls .entry))) (now (output .exit))) ⌝ }
 {
     let mut answers = Vec::with_capacity(heap, calls.len())?;

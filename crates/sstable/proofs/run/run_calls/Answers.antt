@@ -2,6 +2,7 @@ use mathlib.Core.Path.{_≡_, refl, sym, ap, _∙_}
 use mathlib.Core.List.{List, map, [], _∷_, _++_}
 use Prim.Native.Nat.{ℕ, _+_}
 use native.Mathlib.Omega.{arith}
+use borrow.Author.Needs.{needs}
 use lib.ListN.{take}
 use Rattle.std.proofs.shelf.Lists.{map-more, map-push, take-all}
 use Rattle.std.specs.Of.Vec.{vec-items}
@@ -10,6 +11,7 @@ use Rattle.writer.specs.States.{state}
 use Rattle.writer.specs.Told.{ofWriter}
 use Rattle.sstable.specs.Calls.{callOf}
 use Rattle.sstable.proofs.History.{ran-none, ran-more, ran-same, ran-writes}
+use Rattle.format.proofs.ReadBack.{table-back}
 use Rattle.sstable.proofs.Readings.{reads-taken}
 use Rattle.sstable.proofs.run.run_calls.Needs as need
 
@@ -49,5 +51,16 @@ returns g c =
     (ran-same (m .rule) (m .bytes) (c .args .output .now) _ _ _ _ _ _ all refl (c .loop-call .inv .2)) in
     record {
       writing = w;
+      table = table-back (m .rule) (m .bytes) (m .opens) (m .steps) (g .C·Codec·met .back) (g .C·Codec·met .short);
       reading = reads-taken (m .rule) (m .bytes) (m .opens) (m .steps) (g .C·Codec·met .back) (g .C·Codec·met .short) (c .args .output .now) (map callOf xs) (c .loop-call .output) (w .bytesLeft);
     }
+
+pub returns-in-Break-answers : need.returns-in-Break-answers
+returns-in-Break-answers g c =
+    let m = g .C·Codec in
+    record { writing = search needs; table = table-back (m .rule) (m .bytes) (m .opens) (m .steps) (g .C·Codec·met .back) (g .C·Codec·met .short); reading = search needs }
+
+pub returns-in-Break-writer : need.returns-in-Break-writer
+returns-in-Break-writer g c =
+    let m = g .C·Codec in
+    record { writing = search needs; table = table-back (m .rule) (m .bytes) (m .opens) (m .steps) (g .C·Codec·met .back) (g .C·Codec·met .short); reading = search needs }
