@@ -9,6 +9,7 @@ pub mod VoidLaws
 pub mod HeaderLaws
 pub mod KeyLaws
 pub mod ReadingLaws
+pub mod TableLaws
 pub mod EntryBack
 pub mod ReadBack
 pub mod TakenSound

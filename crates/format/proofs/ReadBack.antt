@@ -50,6 +50,7 @@ use Rattle.format.specs.Sound.{rising, shortKeys, allowedIn, Sound, TableReads
 use Rattle.format.specs.Tables.{Entry, blockLen, word, delta, values, deltasAfter, deltas, cutFrom, cut, block, blocks, sstable}
 use Rattle.format.specs.Headers.{header}
 use Rattle.format.proofs.HeaderLaws.{header-some, header-short}
+use Rattle.format.proofs.TableLaws.{lastAfter, deltas-push, open-step}
 use Rattle.format.proofs.EntryBack.{shared-le, shared-less, entry-back}
 
 -- a value that is given tells the whole step
@@ -75,11 +76,6 @@ delta-short base key h =
 abbrev pub flat : {V : Type 0} → List (List (Entry V)) → List (Entry V)
 flat [] = []
 flat (b ∷ bs) = b ++ flat bs
-
--- the last key of some entries behind a key
-abbrev pub lastAfter : {V : Type 0} → List ℕ → List (Entry V) → List ℕ
-lastAfter k [] = k
-lastAfter k (e ∷ es) = lastAfter (e .key) es
 
 module _ {V : Type 0} (opens : List ℕ → Opened) (steps : Cursor → List ℕ → Stepped V) where
   -- from here on an area tells these entries, and then the end
@@ -309,11 +305,6 @@ module _ {V : Type 0} (rule : List V → V → Bool) (bytes : List V → List �
 
 -- Cutting entries into blocks.
 module _ {V : Type 0} where
-  pub open-step : (os : List (Entry V)) (e : Entry V) (es : List (Entry V))
-      → cutFrom os (e ∷ es) ≡ cond (ltb blockLen (length (deltas (os ++ e ∷ [])))) ((os ++ e ∷ []) ∷ cutFrom [] es) (cutFrom (os ++ e ∷ []) es)
-  open-step [] e es = refl
-  open-step (o ∷ os) e es = refl
-
   flat-cut : (es os : List (Entry V)) → flat (cutFrom os es) ≡ os ++ es
   flat-cut [] [] = refl
   flat-cut [] (o ∷ os) = refl
@@ -323,13 +314,6 @@ module _ {V : Type 0} where
           → flat (cond t ((os ++ e ∷ []) ∷ cutFrom [] es) (cutFrom (os ++ e ∷ []) es)) ≡ os ++ e ∷ es
       by true a b = ap (λ (z : List (Entry V)). (os ++ e ∷ []) ++ z) a ∙ append-assoc os (e ∷ []) es
       by false a b = b ∙ append-assoc os (e ∷ []) es
-
-  -- one entry more, at the end of a delta part
-  deltas-push : (prev : List ℕ) (os : List (Entry V)) (e : Entry V) → deltasAfter prev (os ++ e ∷ []) ≡ deltasAfter prev os ++ delta (lastAfter prev os) (e .key)
-  deltas-push prev [] e = append-nil (delta prev (e .key))
-  deltas-push prev (o ∷ os) e =
-      ap (λ (z : List ℕ). delta prev (o .key) ++ z) (deltas-push (o .key) os e)
-      ∙ sym (append-assoc (delta prev (o .key)) (deltasAfter (o .key) os) (delta (lastAfter (o .key) os) (e .key)))
 
   -- entries take at least as many bytes as they are
   one-each : (prev : List ℕ) (es : List (Entry V)) → length es ≤ length (deltasAfter prev es)

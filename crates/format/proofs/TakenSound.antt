@@ -44,13 +44,9 @@ use Rattle.format.specs.Writing.{
   calledAll,
 }
 use Rattle.format.proofs.CodecLaws.{allowed-push}
-use Rattle.format.proofs.ReadBack.{open-step}
+use Rattle.format.proofs.TableLaws.{values-push, open-step}
 
 module _ {V : Type 0} where
-  values-push : (os : List (Entry V)) (e : Entry V) → values (os ++ e ∷ []) ≡ values os ++ e .value ∷ []
-  values-push [] e = refl
-  values-push (o ∷ os) e = ap (λ (z : List V). o .value ∷ z) (values-push os e)
-
   -- the last key of entries behind another
   abbrev lastOf : Option (List ℕ) → List (Entry V) → Option (List ℕ)
   lastOf prev [] = prev

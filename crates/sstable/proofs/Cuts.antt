@@ -7,6 +7,7 @@ use native.Mathlib.Omega.{arith}
 use lib.ListN.{length}
 use Rattle.std.proofs.shelf.Lists.{append-nil}
 use Rattle.format.specs.Tables.{Entry, values, deltasAfter, deltas, delta, cutFrom, cut, block, blocks, sstable, word}
+use Rattle.format.proofs.TableLaws.{open-step}
 use Rattle.format.specs.Writing.{closes, openFrom, closedFrom, openBlock, closedBlocks, closedBytes, finishing}
 
 -- a choice made inside or outside
@@ -19,10 +20,6 @@ chosen-both f true a b x x′ z z′ p q = p
 chosen-both f false a b x x′ z z′ p q = q
 
 module _ {V : Type 0} where
-  abbrev pub lastOr : List ℕ → List (Entry V) → List ℕ
-  lastOr p [] = p
-  lastOr p (e ∷ es) = lastOr (e .key) es
-
   open-more : (os es fs : List (Entry V)) → openFrom os (es ++ fs) ≡ openFrom (openFrom os es) fs
   open-more os [] fs = refl
   open-more os (e ∷ es) fs =
@@ -37,14 +34,10 @@ module _ {V : Type 0} where
       ((os ++ e ∷ []) ∷ closedFrom [] es) (closedFrom (os ++ e ∷ []) es) (openFrom [] es) (openFrom (os ++ e ∷ []) es)
       (ap (λ (z : List (List (Entry V))). (os ++ e ∷ []) ∷ z) (closed-more [] es fs)) (closed-more (os ++ e ∷ []) es fs)
 
-  cut-choice : (os : List (Entry V)) (e : Entry V) (es : List (Entry V)) → cutFrom os (e ∷ es) ≡ cond (closes os e) ((os ++ e ∷ []) ∷ cutFrom [] es) (cutFrom (os ++ e ∷ []) es)
-  cut-choice [] e es = refl
-  cut-choice (o ∷ os) e es = refl
-
   pub cut-from : (os es : List (Entry V)) → cutFrom os es ≡ closedFrom os es ++ cutFrom (openFrom os es) []
   cut-from os [] = refl
   cut-from os (e ∷ es) =
-      cut-choice os e es
+      open-step os e es
       ∙ chosen-both (λ (x : List (List (Entry V))) (z : List (Entry V)). x ++ cutFrom z []) (closes os e)
       ((os ++ e ∷ []) ∷ cutFrom [] es) (cutFrom (os ++ e ∷ []) es)
       ((os ++ e ∷ []) ∷ closedFrom [] es) (closedFrom (os ++ e ∷ []) es) (openFrom [] es) (openFrom (os ++ e ∷ []) es)
@@ -56,20 +49,6 @@ module _ {V : Type 0} where
 
   pub closed-blocks-push : (ts : List (Entry V)) (e : Entry V) → closedBlocks (ts ++ e ∷ []) ≡ closedBlocks ts ++ cond (closes (openBlock ts) e) ((openBlock ts ++ e ∷ []) ∷ []) []
   closed-blocks-push ts e = closed-more [] ts (e ∷ [])
-
-  pub values-push : (os : List (Entry V)) (e : Entry V) → values (os ++ e ∷ []) ≡ values os ++ e .value ∷ []
-  values-push [] e = refl
-  values-push (o ∷ os) e = ap (λ (z : List V). o .value ∷ z) (values-push os e)
-
-  pub deltas-push : (p : List ℕ) (os : List (Entry V)) (e : Entry V) → deltasAfter p (os ++ e ∷ []) ≡ deltasAfter p os ++ delta (lastOr p os) (e .key)
-  deltas-push p [] e = append-nil (delta p (e .key))
-  deltas-push p (o ∷ os) e =
-      ap (λ (z : List ℕ). delta p (o .key) ++ z) (deltas-push (o .key) os e)
-      ∙ sym (append-assoc (delta p (o .key)) (deltasAfter (o .key) os) (delta (lastOr (o .key) os) (e .key)))
-
-  pub last-push : (p : List ℕ) (os : List (Entry V)) (e : Entry V) → lastOr p (os ++ e ∷ []) ≡ e .key
-  last-push p [] e = refl
-  last-push p (o ∷ os) e = last-push (o .key) os e
 
 module _ {V : Type 0} (bytes : List V → List ℕ) where
   blocks-more : (bs cs : List (List (Entry V))) → blocks bytes (bs ++ cs) ≡ blocks bytes bs ++ blocks bytes cs

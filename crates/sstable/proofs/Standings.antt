@@ -26,7 +26,10 @@ use Rattle.writer.specs.declared.phase.Phase.the-variants.{WaitsForKey, WaitsFo
 use Rattle.writer.specs.Parts as parts
 use Rattle.writer.specs.States as states
 use Rattle.writer.specs.States.{State}
-use Rattle.sstable.proofs.Cuts.{lastOr, open-push, values-push, deltas-push, last-push, closed-push, sstable-parts}
+use Rattle.format.proofs.EntryBack.{shared-less}
+use Rattle.format.proofs.HeaderLaws.{header-some}
+use Rattle.format.proofs.TableLaws.{lastAfter as lastOr, values-push, deltas-push, last-push}
+use Rattle.sstable.proofs.Cuts.{open-push, closed-push, sstable-parts}
 
 abbrev pub phaseOf : Waiting → Phase
 phaseOf forKey = WaitsForKey
@@ -60,26 +63,10 @@ module _ {V : Type 0} (bytes : List V → List ℕ) where
   abbrev pub stateOf : Written V → State V
   stateOf w = stateIn (w .taken) (w .waits)
 
--- a header is never empty
-header-some : (keep add : ℕ) → 0 < length (header keep add)
-header-some keep add = cond-both (ltb keep 16 && ltb add 16) ((keep + 16 * add) ∷ []) (1 ∷ leb keep ++ leb add) (λ (h : List ℕ). 0 < length h) (λ e. omega arith) (λ e. omega arith)
-
 delta-length : (p k : List ℕ) → length k - shared p k < length (delta p k)
 delta-length p k =
     let keep = shared p k in
     omega (arith, header-some keep (length k - keep), length-append (header keep (length k - keep)) (drop keep k), length-drop keep k)
-
--- a key above another shares fewer bytes than it has
-shared-less : (p k : List ℕ) → below p k ≡ true → shared p k < length k
-shared-less [] [] h = let z : _≡_ {A = ℕ} 0 1 = cc in absurd (omega arith)
-shared-less [] (b ∷ k) h = omega arith
-shared-less (a ∷ p) [] h = let z : _≡_ {A = ℕ} 0 1 = cc in absurd (omega arith)
-shared-less (a ∷ p) (b ∷ k) h =
-    cond-both (eqb a b) (suc (shared p k)) 0 (λ (n : ℕ). n < suc (length k))
-    (λ e.
-    let r : below (a ∷ p) (b ∷ k) ≡ below p k = cond-false (ltb a b) true _ (le-ltb a b (omega (arith, eqb-true a b e))) ∙ cond-true (eqb a b) (below p k) false e in
-    omega (arith, shared-less p k (sym r ∙ h)))
-    (λ e. omega arith)
 
 and-true : (t : Bool) → (t && true) ≡ t
 and-true true = refl

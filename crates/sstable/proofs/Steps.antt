@@ -21,7 +21,8 @@ use Rattle.writer.specs.declared.phase.Phase.the-variants.{WaitsForKey, Finishe
 use Rattle.writer.specs.Parts as parts
 use Rattle.writer.specs.States as states
 use Rattle.writer.specs.States.{State, Answer, then}
-use Rattle.sstable.proofs.Cuts.{lastOr, open-push, values-push, last-push, closed-push, sstable-parts}
+use Rattle.format.proofs.TableLaws.{lastAfter as lastOr, values-push, last-push}
+use Rattle.sstable.proofs.Cuts.{open-push, closed-push, sstable-parts}
 use Rattle.sstable.proofs.Standings.{stateIn, stateOf, last-key, Open, grown-is, open-taken, never-full, deltas-some}
 
 -- answers of a choice

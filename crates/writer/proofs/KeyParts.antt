@@ -48,14 +48,6 @@ entry-length prev key =
     length-append (header (shared prev key) (length key - shared prev key)) (drop (shared prev key) key)
     ∙ ap (λ (n : ℕ). length (header (shared prev key) (length key - shared prev key)) + n) (length-drop (shared prev key) key)
 
--- a header has at least one byte and at most 21
-pub header-within : (keep add : ℕ) → keep < 2 ^ 64 → add < 2 ^ 64 → (0 < length (header keep add)) × (length (header keep add) ≤ 21)
-header-within keep add k a =
-    let n = leb-ten keep k in
-    let m = leb-ten add a in
-    let l : length (leb keep ++ leb add) ≤ 20 = omega (arith, length-append (leb keep) (leb add)) in
-    cond-both (ltb keep 16 && ltb add 16) ((keep + 16 * add) ∷ []) (1 ∷ leb keep ++ leb add) (λ (h : List ℕ). (0 < length h) × (length h ≤ 21)) (λ e. (omega arith, omega arith)) (λ e. (omega arith, omega arith))
-
 -- a header and a suffix behind a delta part are an entry
 pub entry-pushed : (ds ds′ ds″ prev key : List ℕ) (keep : ℕ) → keep ≡ shared prev key → ds′ ≡ ds ++ header keep (length key - keep) → ds″ ≡ ds′ ++ take (length key - keep) (drop keep key)
     → ds″ ≡ ds ++ entry prev key

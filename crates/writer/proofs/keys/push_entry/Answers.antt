@@ -8,7 +8,8 @@ use Rattle.std.specs.Results.{isOk}
 use Rattle.std.specs.Of.Vec.{vec-items, vec-len, vec-cap}
 use Rattle.format.specs.Headers.{header}
 use Rattle.writer.specs.Parts.{entry}
-use Rattle.writer.proofs.KeyParts.{entry-length, header-within, entry-pushed, ok-since}
+use Rattle.format.proofs.HeaderLaws.{header-some, header-short}
+use Rattle.writer.proofs.KeyParts.{entry-length, entry-pushed, ok-since}
 use Rattle.writer.proofs.keys.push_entry.Needs as need
 
 pub returns : need.returns
@@ -17,7 +18,8 @@ returns c =
     let prev = c .args .prev .now in
     let d = c .args .delta .now in
     let keep = c .common-prefix-len-keep .result in
-    let h = header-within keep (length key - keep) (omega arith) (omega arith) in
+    let some = header-some keep (length key - keep) in
+    let h = header-short keep (length key - keep) (omega arith) (omega arith) in
     let r : isOk (c .encode-keep-add .result) ≡ true = ok-since (c .encode-keep-add .result) (vec-cap d < vec-len d + 21) (c .encode-keep-add .ensures .succeeds) (λ n. omega (arith, c .pre .room)) in
     let e = c .encode-keep-add .ensures .after ∙ cond-true _ _ _ r in
     let mid = c .encode-keep-add .last .block in
