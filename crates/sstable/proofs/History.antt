@@ -31,7 +31,7 @@ over-more old a b =
     sym (drop-drop (length b) (length a) (overwritten old a)) ∙ ap (drop (length b)) d ∙ drop-drop (length b) (length a) old ∙ ap (λ (n : ℕ). drop n old) (sym (length-append a b)) in
     ap (λ (z : List ℕ). z ++ (b ++ drop (length a + length b) (overwritten old a))) t ∙ ap (λ (z : List ℕ). a ++ (b ++ z)) e ∙ sym (append-assoc a b (drop (length (a ++ b)) old))
 
-over-length : (old a : List ℕ) → length a ≤ length old → length (overwritten old a) ≡ length old
+pub over-length : (old a : List ℕ) → length a ≤ length old → length (overwritten old a) ≡ length old
 over-length old a h = length-append a (drop (length a) old) ∙ omega (arith, length-drop (length a) old)
 
 -- An answer by what it tells.
@@ -80,7 +80,7 @@ module _ {V : Type 0} (rule : List V → V → Bool) (bytes : List V → List �
     pub state : s ≡ stateOf bytes (called rule bytes (length old) w c)
     pub out-is : out ≡ overwritten old (output bytes (called rule bytes (length old) w c))
 
-  does-case : {E : Type 0} (tell : E → Fault) (old : List ℕ) (w : Written V) (c : Call V) (r : Result (Unit {0}) E) (s′ : State V) (o′ : List ℕ) (f : Option Fault)
+  pub does-case : {E : Type 0} (tell : E → Fault) (old : List ℕ) (w : Written V) (c : Call V) (r : Result (Unit {0}) E) (s′ : State V) (o′ : List ℕ) (f : Option Fault)
       → refusal rule bytes w c (length old) ≡ f → told tell r ≡ answered f → Kept (length old) w
       → s′ ≡ cond (isOk r) (states.next bytes (stateOf bytes w) c) (stateOf bytes w)
       → o′ ≡ cond (isOk r) (written (overwritten old (output bytes w)) (length (output bytes w)) (states.writes bytes (stateOf bytes w) c)) (overwritten old (output bytes w))

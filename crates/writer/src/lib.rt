@@ -7,4 +7,5 @@ pub mod keys;
 mod limits;
 pub mod phase;
 mod questions;
+mod telling;
 pub mod writer;
