@@ -1,5 +1,5 @@
-// Builds an sstable of u64 values from the lines on standard input, and writes it to standard output; or tells why not on standard
-// error.
+// Builds an sstable of u64 values from the lines on standard input, and writes it to standard output; or tells why not
+// on standard error.
 use building::build;
 use building::fault::BuildFaultDisplay;
 use std::error::AnyError;
