@@ -46,7 +46,7 @@ fn nibble(c: u8) -> u8 {
 }
 
 // The bytes of a key; those of the empty one are written -.
-pub fn key_of(heap: Global, text: &str) -> Result<Vec<u8>, AllocError> {
+pub(crate) fn key_of(heap: Global, text: &str) -> Result<Vec<u8>, AllocError> {
     let mut key = Vec::new(heap);
     let hex = text.as_bytes();
     for i in 0..hex.len() / 2 {
