@@ -4,8 +4,7 @@ ghost use Rattle.format.specs.Codecs.{Allowed};
 ghost use Rattle.format.specs.Monotonic.{last_or};
 ghost use Rattle.format.specs.Ranges.{range_rule, range_bytes, range_opens, range_steps, ranges_of};
 ghost use Rattle.format.specs.Sums.{rises};
-ghost use Rattle.format.proofs.RangeLaws.{range_back, range_short, range_within, ranges_length};
-ghost use Rattle.std.proofs.Common.{arith};
+ghost use Rattle.format.proofs.RangeLaws.{range_back, range_short, range_within, ranges_held};
 
 use crate::fault::CodecFault;
 use crate::value::Codec;
@@ -51,7 +50,7 @@ impl Codec for RangeValues {
 
     ghost within = { range_within };
 
-    ghost held = { λ c. (c.allowed, omega (arith, ranges_length c.edges.items, c.edges.ok.0)) };
+    ghost held = { λ c. ranges_held c.edges.items (vec_len c.edges) c.allowed c.edges.ok.0 c.few };
 
     fn new(heap: Global) -> Result<RangeValues, AllocError> {
         let edges = Vec::with_capacity(heap, MOST_EDGES)?;

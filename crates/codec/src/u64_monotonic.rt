@@ -4,7 +4,7 @@ ghost use Rattle.format.specs.Codecs.{Allowed};
 ghost use Rattle.format.specs.Monotonic.{last_or, u64_rule, u64_bytes, u64_opens, u64_steps};
 ghost use Rattle.format.specs.Sums.{rises};
 ghost use Rattle.format.proofs.MonotonicLaws.{u64_back, u64_short, u64_within};
-ghost use Rattle.std.proofs.Common.{rules, arith};
+ghost use Rattle.format.proofs.CodecLaws.{list_held};
 
 use crate::fault::CodecFault;
 use crate::value::{Codec, MOST_VALUES};
@@ -45,7 +45,7 @@ impl Codec for U64MonotonicValues {
 
     ghost within = { u64_within };
 
-    ghost held = { first_of (Prim.search rules, Prim.grind (arith, Self.row.coded.inj)) };
+    ghost held = { λ c. list_held u64_rule c.vals.items (vec_len c.vals) c.allowed c.vals.ok.0 c.few };
 
     fn new(heap: Global) -> Result<U64MonotonicValues, AllocError> {
         let vals = Vec::with_capacity(heap, MOST_VALUES)?;

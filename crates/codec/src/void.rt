@@ -1,9 +1,7 @@
 // Values without content: no bytes, and a value at every place.
 ghost use Rattle.std.specs.Prelude.{◌≡◌, ℕ, ◌≤◌, [], replicate};
-ghost use Rattle.std.proofs.lemmas.List.{length-replicate};
 ghost use Rattle.format.specs.Void.{void_rule, void_bytes, void_opens, void_steps};
-ghost use Rattle.format.proofs.VoidLaws.{void_back, void_short, void_within, void_allowed};
-ghost use Rattle.std.proofs.Common.{arith};
+ghost use Rattle.format.proofs.VoidLaws.{void_back, void_short, void_within, void_held};
 
 use crate::fault::CodecFault;
 use crate::value::{Codec, MOST_VALUES};
@@ -35,7 +33,7 @@ impl Codec for VoidValues {
 
     ghost within = { void_within };
 
-    ghost held = { λ c. (void_allowed [] (replicate c.count (tt {0})), omega (arith, length-replicate c.count (tt {0}), c.few)) };
+    ghost held = { λ c. void_held c.count c.few };
 
     fn new(_heap: Global) -> Result<VoidValues, AllocError> {
         Ok(VoidValues { count: 0 })

@@ -7,7 +7,7 @@ use Rattle.format.specs.declared.Cursor.{Cursor}
 use Rattle.format.specs.declared.Range.{Range}
 use Rattle.format.specs.Numbers.{leb, Number, read_leb}
 use Rattle.format.specs.Codecs.{Flaw, Opened, Allowed, takes, allowed_after, ReadsBack, Short, Within, Reads, value_at, value_of, moved, most}
-use Rattle.format.specs.Sums.{rises, rise, whole, valued}
+use Rattle.format.specs.Sums.{rises, whole, valued}
 use Rattle.format.specs.Monotonic.{last_or}
 use Rattle.format.specs.Ranges.{end_or, joins, range_rule, ends, edges, range_bytes, range_started, range_counted, range_opens, range_steps, ranges_from, ranges_of}
 use Rattle.format.proofs.NumberLaws.{leb_reads, read_sized}
@@ -261,3 +261,7 @@ opens_zero part n count e z = ap (range_counted part) e ∙ cond-true (eqb count
 
 pub opens_some : (part : List ℕ) (n count : ℕ) (r : Number) → read_leb part ≡ Some (n, count) → 0 < count → read_leb (drop n part) ≡ r → range_opens part ≡ range_started part n count r
 opens_some part n count r e h f = ap (range_counted part) e ∙ cond-false (eqb count 0) _ _ (ne_eqb count 0 (λ z. omega arith)) ∙ ap (range_started part n count) f
+
+-- the ranges of edges that are counted by n are held
+pub ranges_held : (es : List ℕ) (n : ℕ) → Allowed range_rule (ranges_of es) → n ≡ length es → n ≤ 2002 → Allowed range_rule (ranges_of es) × (length (ranges_of es) ≤ most)
+ranges_held es n a e h = (a, omega (arith, ranges_length es))

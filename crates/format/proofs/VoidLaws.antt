@@ -1,8 +1,9 @@
 -- The laws of the codec of values without content.
-use Rattle.std.proofs.Common.{◌≡◌, ℕ, zero, suc, ◌<◌, true, List, [], ◌∷◌, ◌++◌, length, Some, refl, ap, ◌∙◌, arith}
+use Rattle.std.proofs.Common.{◌≡◌, ℕ, zero, suc, ◌<◌, ◌≤◌, true, List, [], ◌∷◌, ◌++◌, length, replicate, Some, refl, ap, ◌∙◌, arith}
+use Rattle.std.proofs.lemmas.List.{length-replicate}
 use Rattle.std.specs.List.{slice_get}
 use Rattle.format.specs.declared.Cursor.{Cursor}
-use Rattle.format.specs.Codecs.{allowed_after, ReadsBack, Short, Within, value_at}
+use Rattle.format.specs.Codecs.{allowed_after, Allowed, most, ReadsBack, Short, Within, value_at}
 use Rattle.format.specs.Void.{void_rule, void_bytes, void_opens, void_steps}
 
 -- every list is allowed
@@ -33,3 +34,7 @@ pub void_within : Within void_opens
 void_within part c n e =
     let p : ◌≡◌ {A = Cursor × ℕ} (record { next = 0; last = 0; left = 0 }, 0) (c, n) = cc in
     omega (arith, ap (λ (x : Cursor × ℕ). x.1) p)
+
+-- so many values without content are held
+pub void_held : (n : ℕ) → n ≤ 2001 → Allowed void_rule (replicate n (tt {0})) × (length (replicate n (tt {0})) ≤ most)
+void_held n h = (void_allowed [] (replicate n (tt {0})), omega (arith, length-replicate n (tt {0})))
