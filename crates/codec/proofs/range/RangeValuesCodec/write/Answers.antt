@@ -21,10 +21,15 @@ invariant_of-self c =
     let z : length es ≡ 0 = sym w.edges.ok.0 ∙ eqb-true (vec_len w.edges) 0 (sym c.if-is_empty.ensures) in
     let n : vec_len c.push_reserved-then-is_empty.new.self ≡ 2 = omega (arith, w.edges.ok.0) in
     let r : length (leb c.saturating_sub.result) ≡ length (leb (v.end - v.start)) = ap (λ (k : ℕ). length (leb k)) c.saturating_sub.ensures in
-    let s = ap (λ (fs : List ℕ). length (rises 0 fs)) e ∙ rises_first es v z in (
-      omega (arith, w.room),
-      (omega arith, ((λ q. omega arith), (rw (e, ranges_first es v z) (allowed_push range_rule (ranges_of es) v w.allowed t.0), (rw e (sym (last_push 0 (es ++ v.start ∷ []) v.end)), (omega (arith, r, s), tt))))),
-    )
+    let s = ap (λ (fs : List ℕ). length (rises 0 fs)) e ∙ rises_first es v z in
+    record {
+      room = omega (arith, w.room);
+      few = omega arith;
+      paired = λ q. omega arith;
+      allowed = rw (e, ranges_first es v z) (allowed_push range_rule (ranges_of es) v w.allowed t.0);
+      lastly = rw e (sym (last_push 0 (es ++ v.start ∷ []) v.end));
+      sized = omega (arith, r, s);
+    }
 
 pub overflow_add-self-2 : goal.overflow_add-self-2
 overflow_add-self-2 c =
@@ -50,10 +55,15 @@ invariant_of-self-2 c =
     let u : length (ranges_of es) < 2001 = ltb-true (length (ranges_of es)) 2001 t.1 in
     let r : length (leb c.saturating_sub-2.result) ≡ length (leb (v.end - last_or 0 es)) = ap (λ (k : ℕ). length (leb k)) (c.saturating_sub-2.ensures ∙ ap (λ (k : ℕ). v.end - k) w.lastly) in
     let s : length (rises 0 (es ++ v.end ∷ [])) ≡ length (rises 0 es) + length (leb (v.end - last_or 0 es)) = ap length (rises_push 0 es v.end) ∙ length-append (rises 0 es) (leb (v.end - last_or 0 es)) in
-    let s' = ap (λ (fs : List ℕ). length (rises 0 fs)) e in (
-      omega arith,
-      (omega (arith, u, ranges_length es, w.edges.ok.0), ((λ q. omega (arith, w.edges.ok.0)), (rw (e, ranges_more es v h p t.0) (allowed_push range_rule (ranges_of es) v w.allowed t.0), (rw e (sym (last_push 0 es v.end)), (omega (arith, r, s, s'), tt))))),
-    )
+    let s' = ap (λ (fs : List ℕ). length (rises 0 fs)) e in
+    record {
+      room = omega arith;
+      few = omega (arith, u, ranges_length es, w.edges.ok.0);
+      paired = λ q. omega (arith, w.edges.ok.0);
+      allowed = rw (e, ranges_more es v h p t.0) (allowed_push range_rule (ranges_of es) v w.allowed t.0);
+      lastly = rw e (sym (last_push 0 es v.end));
+      sized = omega (arith, r, s, s');
+    }
 
 pub returns-then-is_empty : goal.returns-then-is_empty
 returns-then-is_empty c =

@@ -1,6 +1,5 @@
-use Rattle.std.proofs.Common.{◌≡◌, ℕ, ◌+◌, ◌-◌, ◌<◌, true, ltb, List, [], ◌∷◌, ◌++◌, length, vec_items, sym, ap, ◌∙◌, arith, length-append}
+use Rattle.std.proofs.Common.{◌≡◌, ℕ, ◌+◌, ◌-◌, ◌<◌, ltb, List, [], ◌∷◌, ◌++◌, length, vec_items, sym, ap, ◌∙◌, arith, length-append}
 use Rattle.std.proofs.lemmas.Bool.{and_parts, ltb-true}
-use Rattle.format.specs.Codecs.{Allowed}
 use Rattle.format.specs.Monotonic.{last_or, u64_rule}
 use Rattle.format.specs.Numbers.{leb}
 use Rattle.format.specs.Sums.{rises}
@@ -22,7 +21,11 @@ invariant_of-self c =
     let h : length vs < 2001 = ltb-true (length vs) 2001 t.1 in
     let r : length (leb c.saturating_sub.result) ≡ length (leb (v - last_or 0 vs)) = ap (λ (k : ℕ). length (leb k)) (c.saturating_sub.ensures ∙ ap (λ (k : ℕ). v - k) w.lastly) in
     let s : length (rises 0 (vs ++ v ∷ [])) ≡ length (rises 0 vs) + length (leb (v - last_or 0 vs)) = ap length (rises_push 0 vs v) ∙ length-append (rises 0 vs) (leb (v - last_or 0 vs)) in
-    let s' = ap (λ (z : List ℕ). length (rises 0 z)) e in (
-      omega arith,
-      (omega (arith, w.vals.ok.0), (rw e (allowed_push u64_rule vs v w.allowed t.0), (rw e (sym (last_push 0 vs v)), (omega (arith, r, s, s'), tt)))),
-    )
+    let s' = ap (λ (z : List ℕ). length (rises 0 z)) e in
+    record {
+      room = omega arith;
+      few = omega (arith, w.vals.ok.0);
+      allowed = rw e (allowed_push u64_rule vs v w.allowed t.0);
+      lastly = rw e (sym (last_push 0 vs v));
+      sized = omega (arith, r, s, s');
+    }

@@ -7,7 +7,7 @@ use Rattle.codec.proofs.void.VoidValuesCodec.write.Goals as goal
 pub invariant_of-self : goal.invariant_of-self
 invariant_of-self c =
     let n = c.args.self.now.count in
-    (omega (arith, ltb-true (length (replicate n (tt {0}))) 2001 (sym c.if-not-allows.ensures), length-replicate n (tt {0})), tt)
+    record { few = omega (arith, ltb-true (length (replicate n (tt {0}))) 2001 (sym c.if-not-allows.ensures), length-replicate n (tt {0})) }
 
 pub returns : goal.returns
 returns c =
