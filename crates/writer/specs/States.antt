@@ -5,6 +5,7 @@ use Rattle.format.specs.Faults.{Fault, fault, codec, call}
 use Rattle.format.specs.Keys.{longest, follows}
 use Rattle.format.specs.Tables.{block_len, word}
 use Rattle.format.specs.Writing.{Call, insert, insert_key, insert_value, finish}
+use Rattle.codec.specs.declared.value.Codec.{Ghosts}
 use Rattle.writer.specs.declared.phase.Phase.{Phase}
 use Rattle.writer.specs.declared.phase.Phase.TheVariants.{WaitsForKey, WaitsForValue, Finished}
 use Rattle.writer.specs.declared.phase.Kind.{Kind}
@@ -26,7 +27,7 @@ pub record State (V : Type 0) : Type 0 where
   -- how many entries were taken
   pub ordinal : ℕ
 
-abbrev pub state : {C V : Type 0} → (C → List V) → Writer C V → State V
+abbrev pub state : {C V : Type 0} {g : Ghosts C V} → (C → List V) → Writer C V g → State V
 state list w = record {
   phase = w.phase;
   last = vec_items w.last;

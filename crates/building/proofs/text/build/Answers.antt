@@ -1,8 +1,8 @@
-use Rattle.std.proofs.Common.{◌≡◌, ℕ, List, take, drop, Some, None, vec_items, Option, sym, ap, ◌∙◌, arith}
+use Rattle.std.proofs.Common.{ℕ, List, take, Some, vec_items, sym, ap, ◌∙◌, arith}
+use Rattle.codec.specs.declared.value.Codec.{Ghosts}
 use Rattle.codec.specs.declared.u64_monotonic.U64MonotonicValues.{U64MonotonicValues}
 use Rattle.std.proofs.lemmas.List.{take_rest}
 use Rattle.std.specs.Option.{option_map}
-use Rattle.format.specs.Tables.{Entry}
 use Rattle.writer.specs.States.{State, state}
 use Rattle.writer.specs.Told.{of_writer}
 use Rattle.writer.specs.declared.writer.Writer.{Writer}
@@ -11,7 +11,7 @@ use Rattle.building.specs.Parts.{entry_of}
 use Rattle.building.proofs.Builds.{bad_line_lem, bad_entry_lem, stands_more, bad_end_lem, stands_whole}
 use Rattle.building.proofs.text.build.Goals as goal
 
-abbrev held : Writer U64MonotonicValues ℕ → State ℕ
+abbrev held : {g : Ghosts U64MonotonicValues ℕ} → Writer U64MonotonicValues ℕ g → State ℕ
 held w = state (λ c. vec_items c.vals) w
 
 pub returns-in_default : goal.returns-in_default
