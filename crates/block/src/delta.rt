@@ -120,10 +120,10 @@ impl<C: Codec> DeltaReader<C> {
 
     // Stands behind an entry that was found.
     fn keep<'a>(&mut self, found: Found<'a, C::Value>) -> Delta<'a, C::Value>
-        requires standing { (IfSome.next ≤ IfSome.block.end) × (IfSome.block.start + 5 ≤ IfSome.next) × (self.old.next < IfSome.next) }
-        requires keyed { (IfSome.delta.keep ≤ length (key_of (last_of self.old.last))) × (IfSome.delta.keep + length IfSome.delta.suffix.now ≤ 512) }
-        ensures answer { result ≡ IfSome.entry.delta }
-        ensures after { entry (delta_of IfSome.entry.delta) (position_of self.new) ≡ found_of (last_of self.old.last) self.old.ordinal IfSome.entry }
+        requires standing { (found.next ≤ found.block.end) × (found.block.start + 5 ≤ found.next) × (self.old.next < found.next) }
+        requires keyed { (found.delta.keep ≤ length (key_of (last_of self.old.last))) × (found.delta.keep + length found.delta.suffix.now ≤ 512) }
+        ensures answer { result ≡ found.entry.delta }
+        ensures after { entry (delta_of found.entry.delta) (position_of self.new) ≡ found_of (last_of self.old.last) self.old.ordinal found.entry }
         ensures same { self.new.phase ≡ self.old.phase }
     {
         let Found {
