@@ -33,7 +33,7 @@ fn parses(rt: HostRuntime) -> Result<(), Fail> {
         return Ok(());
     };
     assert!(rt; line.value == u64::MAX);
-    assert!(rt; line.key.as_slice() == &[0x0a, 0xff]);
+    assert!(rt; line.key.as_slice() == [0x0a, 0xff].as_slice());
     Ok(())
 }
 

@@ -1,4 +1,4 @@
-use Rattle.std.proofs.Common.{◌≡◌, ℕ, List, ◌++◌, Ok, vec_items, Option, sym, refl, ap, ◌∙◌, arith}
+use Rattle.std.proofs.Common.{ℕ, ◌++◌, Ok, vec_items, Option, sym, refl, ap, ◌∙◌, arith}
 use Rattle.format.specs.Monotonic.{u64_opens, u64_steps}
 use Rattle.format.specs.Reading.{key_at, read_area}
 use Rattle.block.specs.declared.found.Delta.{Delta}
@@ -35,4 +35,4 @@ pub returns-in-Err : goal.returns-in-Err
 returns-in-Err c =
     let i = c.loop-next.invariant in
     turned_fault u64_opens u64_steps c.args.area.now _ (vec_items c.loop-next.text) c.loop-next.count c.loop-next.reader.phase (position_of c.loop-next.reader) i.0 i.1 i.2 i.3
-    (vec_items c.push_fault.new.text) (of_read c.in-Err.fault) c.in-Err.ensures.answer c.in_ok-push_fault.ensures
+    (vec_items c.push_fault.new.text) (of_read c.in-Err.fault) c.in-Err.ensures.answer c.in_ok-push_fault-in-Err.ensures
