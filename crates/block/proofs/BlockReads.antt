@@ -1,10 +1,10 @@
 -- From a block to its first entry.
-use Rattle.std.proofs.Common.{◌≡◌, ℕ, ◌+◌, ◌-◌, ◌<◌, ◌≤◌, cond, eqb, ltb, List, [], length, take, drop, Some, None, Ok, Err, Option, Result, sym, refl, ap, ◌∙◌, arith, length-take}
+use Rattle.std.proofs.Common.{◌≡◌, ℕ, ◌+◌, ◌-◌, ◌<◌, ◌≤◌, eqb, ltb, List, [], length, drop, Some, None, Ok, Err, Option, Result, sym, ap, ◌∙◌, arith, length-take}
 use Rattle.std.proofs.lemmas.Bool.{cond-true, cond-false, lt-ltb, le-ltb, eq-eqb}
 use Rattle.format.specs.declared.Cursor.{Cursor}
-use Rattle.format.specs.Codecs.{Flaw, flaw_at, placed, Opened, Stepped}
+use Rattle.format.specs.Codecs.{Flaw, placed, Opened, Stepped}
 use Rattle.format.specs.Faults.{Fault}
-use Rattle.format.specs.Reading.{Position, Step, block_at, content, border, loaded, opened, entry_at, step_at}
+use Rattle.format.specs.Reading.{Position, block_at, content, border, loaded, opened, entry_at, step_at}
 use Rattle.block.specs.declared.frame.Block.{Block}
 use Rattle.block.specs.Blocks.{framed, read_block}
 use Rattle.block.specs.Entries.{position}

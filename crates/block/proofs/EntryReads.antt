@@ -1,12 +1,12 @@
 -- Each way that a suffix and its key are read.
-use Rattle.std.proofs.Common.{◌≡◌, ℕ, ◌+◌, ◌-◌, ◌<◌, ◌≤◌, Bool, true, false, cond, ltb, List, [], ◌++◌, length, take, drop, Some, None, Ok, Err, Option, Result, sym, refl, ap, ◌∙◌, arith}
+use Rattle.std.proofs.Common.{◌≡◌, ℕ, ◌+◌, ◌-◌, ◌<◌, ◌≤◌, Bool, true, false, cond, List, ◌++◌, length, take, drop, Some, None, Ok, Err, Result, sym, refl, ap, ◌∙◌, arith}
 use Rattle.std.proofs.lemmas.List.{take_rest}
 use Rattle.std.proofs.lemmas.Bool.{cond-true, cond-false, lt-ltb, le-ltb}
 use Rattle.format.specs.Faults.{Fault, fault, block, or_fault, bad_number}
 use Rattle.format.specs.Headers.{Header, read_header, pair_of, length_of}
 use Rattle.format.specs.Keys.{below, follows}
 use Rattle.format.specs.Codecs.{Stepped}
-use Rattle.format.specs.Reading.{Position, Step, faulted, Suffix, suffix_of, suffix_at, key_of, key_with, keyed, suffixed}
+use Rattle.format.specs.Reading.{Position, faulted, Suffix, suffix_of, suffix_at, key_of, key_with, keyed, suffixed}
 use Rattle.format.proofs.KeyLaws.{below_kept}
 use Rattle.block.specs.Entries.{base_of, accepts}
 

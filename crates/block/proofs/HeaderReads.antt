@@ -1,5 +1,5 @@
 -- A reading that is the header's gives back what was written, and moves behind it.
-use Rattle.std.proofs.Common.{◌≡◌, ℕ, ◌+◌, List, drop, Some, None, Ok, Err, Option, Result, sym, refl, ap, ◌∙◌, arith}
+use Rattle.std.proofs.Common.{◌≡◌, ℕ, ◌+◌, List, drop, None, Ok, Err, Result, sym, refl, ap, ◌∙◌, arith}
 use Rattle.codec.specs.declared.fault.NumberFault.{NumberFault}
 use Rattle.codec.specs.Told.{of_number}
 use Rattle.format.specs.Faults.{Fault, told, or_fault, bad_number}

@@ -1,5 +1,5 @@
 -- The front of the key before, as the code holds it.
-use Rattle.std.proofs.Common.{◌≡◌, ℕ, ◌≤◌, Bool, true, false, cond, List, [], length, take, Some, None, Option, sym, refl, ap, ◌∙◌, arith, length-take}
+use Rattle.std.proofs.Common.{◌≡◌, ℕ, ◌≤◌, Bool, true, false, cond, List, length, take, Some, None, sym, refl, arith, length-take}
 use Rattle.std.proofs.lemmas.List.{take-take}
 use Rattle.format.specs.Reading.{key_of}
 

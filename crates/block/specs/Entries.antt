@@ -1,5 +1,5 @@
 -- Entries as the code answers them.
-use Rattle.std.specs.Prelude.{ℕ, ◌+◌, Bool, true, false, cond, List, [], ◌++◌, take, Some, None, Ok, Err, Option, Result}
+use Rattle.std.specs.Prelude.{ℕ, ◌+◌, Bool, true, false, List, [], ◌++◌, take, Some, None, Ok, Err, Option, Result}
 use Rattle.format.specs.declared.Cursor.{Cursor}
 use Rattle.format.specs.Faults.{Fault}
 use Rattle.format.specs.Reading as reading

@@ -1,4 +1,6 @@
 // Reading blocks and their entries.
+#![tactic(auto)]
+
 pub mod block_reader;
 pub mod delta;
 mod entry;

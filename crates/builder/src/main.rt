@@ -1,5 +1,7 @@
 // Builds an sstable of u64 values from the lines on standard input, and writes it to standard output; or tells why not
 // on standard error.
+#![tactic(auto)]
+
 use anyhow::anyhow;
 use building::build;
 use std::io::{Read, Write};

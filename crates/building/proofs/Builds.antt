@@ -1,12 +1,12 @@
 -- What a loop over lines learns from each call on the writer.
-use Rattle.std.proofs.Common.{◌≡◌, ℕ, suc, ◌+◌, ◌-◌, ◌<◌, ◌≤◌, Bool, true, false, cond, eqb, ◌⊎◌, List, [], ◌∷◌, ◌++◌, length, take, drop, is_ok, Some, None, Ok, Err, Option, Result, sym, refl, ap, ◌∙◌, subst, inl, inr, add-one, arith, length-drop}
+use Rattle.std.proofs.Common.{◌≡◌, ℕ, ◌+◌, ◌<◌, ◌≤◌, false, cond, eqb, List, [], ◌∷◌, ◌++◌, length, take, drop, is_ok, Some, None, Ok, Err, Option, Result, sym, refl, ap, ◌∙◌, subst, inl, inr, add-one, arith, length-drop}
 use Rattle.std.proofs.lemmas.List.{drop-drop, drop_all}
 use Rattle.std.proofs.lemmas.Bool.{cond-true, cond-false, cases_Bool}
 use Rattle.format.specs.Buffers.{written}
 use Rattle.format.specs.Faults.{Fault, told}
 use Rattle.format.specs.Monotonic.{u64_rule, u64_bytes}
 use Rattle.format.specs.Tables.{Entry, sstable}
-use Rattle.format.specs.Writing.{Written, Call, for_key, insert, finish, refusal, answered, accepted, called, output, overwritten}
+use Rattle.format.specs.Writing.{Written, Call, insert, finish, refusal, answered, accepted, called, output, overwritten}
 use Rattle.sstable.proofs.History.{Kept, kept_new, kept_case, called_none, Does, does_case, over_length}
 use Rattle.sstable.proofs.Standings.{state_of}
 use Rattle.sstable.proofs.Steps.{answer_is}

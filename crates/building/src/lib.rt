@@ -1,4 +1,6 @@
 // Sstables of u64 values from text: a line has a key in hexadecimal, a tab, and a value in decimal.
+#![tactic(auto)]
+
 pub mod fault;
 mod line;
 #[cfg(test)]

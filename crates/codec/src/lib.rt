@@ -1,4 +1,6 @@
 // Numbers and value codecs.
+#![tactic(auto)]
+
 pub mod fault;
 pub mod range;
 mod sums;

@@ -1,14 +1,13 @@
 -- An entry that was written is read back.
-use Rattle.std.proofs.Common.{◌≡◌, ℕ, zero, suc, ◌+◌, ◌-◌, ◌*◌, ◌^◌, ◌<◌, ◌≤◌, Bool, true, false, cond, eqb, ltb, List, [], ◌∷◌, ◌++◌, length, take, drop, Some, None, Ok, Err, Option, Result, sym, refl, ap, ◌∙◌, append_assoc, arith, length-append, length-drop}
+use Rattle.std.proofs.Common.{◌≡◌, ℕ, suc, ◌+◌, ◌-◌, ◌<◌, ◌≤◌, Bool, true, false, cond, eqb, ltb, List, [], ◌∷◌, ◌++◌, length, take, drop, Some, Ok, Option, Result, sym, refl, ap, ◌∙◌, append_assoc, arith, length-append, length-drop}
 use Rattle.std.proofs.lemmas.List.{take_at, drop_at, drop-take, take-append-drop}
-use Rattle.std.proofs.lemmas.Bool.{cond-true, cond-false, lt-ltb, le-ltb, eqb-true, eqb-false, cases_Bool}
+use Rattle.std.proofs.lemmas.Bool.{cond-true, cond-false, le-ltb, eqb-true}
 use Rattle.format.specs.declared.Cursor.{Cursor}
 use Rattle.format.specs.Codecs.{Opened, Stepped}
 use Rattle.format.specs.Faults.{Fault}
-use Rattle.format.specs.Headers.{Header, header, read_header}
-use Rattle.format.specs.Keys.{below, shared, follows, longest}
-use Rattle.format.specs.Numbers.{leb}
-use Rattle.format.specs.Reading.{Position, Delta, Step, entry, Suffix, suffix_of, suffix_at, key_with, valued, keyed, suffixed, content, entry_at}
+use Rattle.format.specs.Headers.{header, read_header}
+use Rattle.format.specs.Keys.{below, shared, follows}
+use Rattle.format.specs.Reading.{Position, entry, Suffix, suffix_of, suffix_at, key_with, valued, keyed, suffixed, content, entry_at}
 use Rattle.format.specs.Tables.{delta}
 use Rattle.format.proofs.HeaderLaws.{header_back}
 

@@ -1,9 +1,9 @@
 -- Laws of headers: each way that one is read, and that what is written is read back.
-use Rattle.std.proofs.Common.{◌≡◌, ℕ, suc, ◌+◌, ◌-◌, ◌*◌, ◌/◌, ◌%◌, ◌^◌, ◌<◌, ◌≤◌, Bool, false, cond, ◌&&◌, eqb, ltb, List, [], ◌∷◌, ◌++◌, length, get_or, drop, Some, None, sym, refl, ap, ◌∙◌, inl, inr, append_assoc, arith, length-append}
+use Rattle.std.proofs.Common.{◌≡◌, ℕ, suc, ◌+◌, ◌*◌, ◌/◌, ◌%◌, ◌^◌, ◌<◌, ◌≤◌, false, ◌&&◌, eqb, ltb, List, [], ◌∷◌, ◌++◌, length, get_or, drop, Some, None, refl, ap, ◌∙◌, inl, inr, append_assoc, arith, length-append}
 use Rattle.std.proofs.lemmas.List.{drop_at, drop_more, drop_all, drop-drop}
 use Rattle.std.proofs.lemmas.Bool.{cases_lt, lt-ltb, le-ltb, ne_eqb, eq-eqb, and_left, and_right, cond-true, cond-false, cond_both}
-use Rattle.format.specs.Numbers.{leb, Number, read_leb}
-use Rattle.format.specs.Headers.{Header, header, read_header, keep_of, add_of}
+use Rattle.format.specs.Numbers.{leb, read_leb}
+use Rattle.format.specs.Headers.{header, read_header, keep_of, add_of}
 use Rattle.format.proofs.NumberLaws.{leb_reads, leb_ten}
 
 -- no byte is left

@@ -1,13 +1,13 @@
 -- The laws of the codec of numbers that never fall.
-use Rattle.std.proofs.Common.{◌≡◌, ℕ, zero, suc, ◌+◌, ◌-◌, ◌*◌, ◌^◌, ◌<◌, ◌≤◌, Bool, true, ◌&&◌, ltb, leb as at_most, List, [], ◌∷◌, ◌++◌, length, Some, None, Ok, Err, Option, Result, sym, refl, ap, ◌∙◌, append_assoc, arith, length-append}
+use Rattle.std.proofs.Common.{◌≡◌, ℕ, zero, suc, ◌+◌, ◌-◌, ◌^◌, ◌<◌, ◌≤◌, true, ltb, leb as at_most, List, [], ◌∷◌, ◌++◌, length, Some, None, Ok, Option, Result, sym, refl, ap, ◌∙◌, append_assoc, arith, length-append}
 use Rattle.std.proofs.lemmas.Bool.{and_parts, leb-true, ltb-true}
 use Rattle.std.specs.List.{slice_get}
 use Rattle.format.specs.declared.Cursor.{Cursor}
 use Rattle.format.specs.Numbers.{leb, Number, read_leb}
-use Rattle.format.specs.Codecs.{Flaw, Allowed, allowed_after, ReadsBack, Short, Within, Stepped, value_at, value_of, moved, most}
-use Rattle.format.specs.Sums.{rises, counted, rise, whole, valued}
+use Rattle.format.specs.Codecs.{Flaw, Allowed, allowed_after, ReadsBack, Short, Within, value_at, value_of, moved}
+use Rattle.format.specs.Sums.{rises, counted, valued}
 use Rattle.format.specs.Monotonic.{last_or, u64_rule, u64_bytes, u64_opens, u64_steps, u64_counted}
-use Rattle.format.proofs.NumberLaws.{leb_reads, Sized, read_sized}
+use Rattle.format.proofs.NumberLaws.{leb_reads, read_sized}
 use Rattle.format.proofs.SumLaws.{Rising, none, more, last_push, before, rise_one, part_next, whole_rises, counted_short, whole_within}
 
 rising_after : (done vs : List ℕ) → allowed_after u64_rule done vs ≡ true → Rising (last_or 0 done) vs

@@ -1,12 +1,11 @@
 -- The sstable of sound entries reads as these entries, and then the end.
-use Rattle.std.proofs.Common.{◌≡◌, ℕ, zero, suc, ◌+◌, ◌-◌, ◌*◌, ◌/◌, ◌%◌, ◌^◌, ◌<◌, ◌≤◌, Bool, true, false, cond, ◌&&◌, eqb, ltb, leb as at_most, List, [], ◌∷◌, ◌++◌, length, get_or, take, drop, Some, None, Ok, Err, Option, Result, sym, refl, ap, ◌∙◌, subst, append_assoc, arith, length-append, length-drop}
+use Rattle.std.proofs.Common.{◌≡◌, ℕ, zero, suc, ◌+◌, ◌-◌, ◌*◌, ◌/◌, ◌%◌, ◌^◌, ◌<◌, ◌≤◌, Bool, true, false, cond, eqb, ltb, leb as at_most, List, [], ◌∷◌, ◌++◌, length, take, drop, Some, None, Ok, Err, Option, sym, refl, ap, ◌∙◌, subst, append_assoc, arith, length-append, length-drop}
 use Rattle.std.proofs.lemmas.Nat.{shr-shr, div-add-mod'}
-use Rattle.std.proofs.lemmas.List.{take_at, drop_at, append-nil, length_push}
-use Rattle.std.proofs.lemmas.Bool.{cond-true, cond-false, lt-ltb, le-ltb, ne_eqb, eq-eqb, and_parts, leb-true, ltb-false, ltb-true, and_from}
+use Rattle.std.proofs.lemmas.List.{take_at, drop_at, length_push}
+use Rattle.std.proofs.lemmas.Bool.{cond-true, cond-false, lt-ltb, le-ltb, ne_eqb, eq-eqb, and_parts, leb-true, ltb-false, and_from}
 use Rattle.std.specs.List.{slice_get}
 use Rattle.format.specs.declared.Cursor.{Cursor}
-use Rattle.format.specs.Codecs.{Flaw, Opened, Stepped, Allowed, allowed_after, Reads, ReadsBack, Short, value_at, value_of, moved, most}
-use Rattle.format.specs.Faults.{Fault}
+use Rattle.format.specs.Codecs.{Opened, Stepped, Allowed, allowed_after, Reads, ReadsBack, Short, value_at, value_of, moved, most}
 use Rattle.format.specs.Keys.{below, shared, follows}
 use Rattle.format.specs.Reading.{
   Position,
@@ -36,7 +35,7 @@ use Rattle.format.specs.Reading.{
   behind,
   read_in,
 }
-use Rattle.format.specs.Sound.{rising, short_keys, allowed_in, Sound, TableReadsBack}
+use Rattle.format.specs.Sound.{rising, short_keys, allowed_in, TableReadsBack}
 use Rattle.format.specs.Tables.{Entry, block_len, word, delta, values, deltas_after, deltas, cut_from, cut, block, blocks, sstable}
 use Rattle.format.specs.Headers.{header}
 use Rattle.format.proofs.HeaderLaws.{header_some, header_short}

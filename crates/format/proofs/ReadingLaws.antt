@@ -1,13 +1,13 @@
 -- A step of a reading that gives an entry moves on, stays within the area, and counts.
-use Rattle.std.proofs.Common.{◌≡◌, ℕ, suc, ◌+◌, ◌-◌, ◌<◌, ◌≤◌, Bool, true, false, cond, eqb, ltb, leb as at_most, List, [], ◌∷◌, ◌++◌, length, take, drop, IfSome, IfOk, Some, None, Ok, Err, Option, Result, sym, refl, ap, ◌∙◌, subst, arith, length-drop, length-take}
-use Rattle.std.proofs.lemmas.Bool.{cond_both, eqb-true, ltb-false}
+use Rattle.std.proofs.Common.{◌≡◌, ℕ, ◌+◌, ◌-◌, ◌<◌, ◌≤◌, eqb, ltb, List, [], ◌∷◌, length, take, drop, IfSome, IfOk, Some, None, Ok, Err, Option, Result, refl, arith, length-drop, length-take}
+use Rattle.std.proofs.lemmas.Bool.{cond_both, eqb-true}
 use Rattle.format.specs.declared.Cursor.{Cursor}
 use Rattle.format.specs.Codecs.{Opened, Stepped}
 use Rattle.format.specs.Faults.{Fault}
 use Rattle.format.specs.Headers.{Header, read_header, keep_of, add_of}
 use Rattle.format.specs.Numbers.{Number, read_leb}
-use Rattle.format.specs.Reading.{Position, Delta, Step, entry, ended, faulted, Suffix, suffix_of, suffix_at, key_with, key_of, valued, keyed, suffixed, content, entry_at, opened, loaded, border, block_at, step_at}
-use Rattle.format.proofs.NumberLaws.{Sized, read_sized}
+use Rattle.format.specs.Reading.{Position, Step, entry, ended, faulted, Suffix, suffix_of, suffix_at, key_with, key_of, valued, keyed, suffixed, content, entry_at, opened, loaded, block_at, step_at}
+use Rattle.format.proofs.NumberLaws.{read_sized}
 
 -- Where an entry leaves a reading of an area that stood at a place, with so many entries read.
 pub record Onward (area : List ℕ) (next ordinal : ℕ) (q : Position) : Type 0 where

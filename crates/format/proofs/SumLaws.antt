@@ -1,15 +1,14 @@
 -- Laws of rising numbers: their bytes one by one, how many these are, and that a cursor walks through them.
-use Rattle.std.proofs.Common.{◌≡◌, ℕ, zero, suc, ◌+◌, ◌-◌, ◌*◌, ◌^◌, ◌<◌, ◌≤◌, Bool, true, false, cond, ◌&&◌, eqb, ltb, leb as at_most, List, [], ◌∷◌, ◌++◌, length, drop, IfSome, IfOk, Some, None, Ok, Err, Option, Result, sym, refl, ap, ◌∙◌, append_assoc, arith, length-append, length-drop, MatchResult}
+use Rattle.std.proofs.Common.{◌≡◌, ℕ, zero, suc, ◌+◌, ◌-◌, ◌*◌, ◌^◌, ◌<◌, ◌≤◌, true, false, eqb, ltb, List, [], ◌∷◌, ◌++◌, length, drop, IfSome, IfOk, Some, None, Ok, Err, Option, Result, sym, refl, ap, ◌∙◌, append_assoc, arith, length-append, length-drop, MatchResult}
 use Rattle.std.proofs.lemmas.List.{drop_at, length_push, append-nil}
-use Rattle.std.proofs.lemmas.Bool.{lt-ltb, le-ltb, eq-eqb, ne_eqb, eqb-false, cond_both, and_parts, leb-true, ltb-true, cond-true, cond-false}
-use Rattle.std.specs.List.{slice_get}
+use Rattle.std.proofs.lemmas.Bool.{lt-ltb, le-ltb, eq-eqb, ne_eqb, eqb-false, cond_both, cond-true, cond-false}
 use Rattle.format.specs.declared.Cursor.{Cursor}
 use Rattle.format.specs.Numbers.{leb, Number, read_leb}
 use Rattle.format.specs.Codecs.{Flaw, no_number, overflow, placed, flaw_at, given, moved}
 use Rattle.format.specs.Faults.{Fault}
 use Rattle.format.specs.Sums.{rises, counted, raised, rise, end_in, whole, with_end, moves, risen, valued}
 use Rattle.format.specs.Monotonic.{last_or}
-use Rattle.format.proofs.NumberLaws.{leb_ten, leb_reads, Sized, read_sized}
+use Rattle.format.proofs.NumberLaws.{leb_ten, leb_reads, read_sized}
 
 pub last_push : (v : ℕ) (vs : List ℕ) (w : ℕ) → last_or v (vs ++ w ∷ []) ≡ w
 last_push v [] w = refl

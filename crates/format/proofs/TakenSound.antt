@@ -1,40 +1,12 @@
 -- What a writer takes, whatever the calls, is sound: its sstable reads back.
-use Rattle.std.proofs.Common.{◌≡◌, ℕ, ◌+◌, ◌≤◌, Bool, true, false, cond, ◌&&◌, ltb, leb as at_most, List, [], ◌∷◌, ◌++◌, length, Some, None, Option, sym, refl, ap, ◌∙◌, subst, append_assoc, arith}
-use Rattle.std.proofs.lemmas.Bool.{and_parts, and_from, le-leb, ltb-false, cond-true, cond-false}
+use Rattle.std.proofs.Common.{◌≡◌, ℕ, ◌≤◌, Bool, true, false, cond, ltb, leb as at_most, List, [], ◌∷◌, ◌++◌, length, Some, None, Option, sym, refl, ap, ◌∙◌, arith}
+use Rattle.std.proofs.lemmas.Bool.{and_parts, and_from, le-leb, ltb-false}
 use Rattle.format.specs.Codecs.{allowed_after, Allowed}
-use Rattle.format.specs.Faults.{Fault, fault, codec, call}
+use Rattle.format.specs.Faults.{Fault, fault, codec}
 use Rattle.format.specs.Keys.{longest, follows}
 use Rattle.format.specs.Sound.{rising, short_keys, allowed_in, Sound}
-use Rattle.format.specs.Tables.{Entry, block_len, values, deltas, cut_from, cut}
-use Rattle.format.specs.Writing.{
-  Waiting,
-  for_key,
-  for_value,
-  finished,
-  Written,
-  Call,
-  insert,
-  insert_key,
-  insert_value,
-  finish,
-  first,
-  new,
-  last_key,
-  closes,
-  open_from,
-  open_block,
-  refused,
-  key_refusal,
-  accepted_in,
-  accepted,
-  flush_refusal,
-  finish_refusal,
-  entry_refusal,
-  refusal_in,
-  refusal,
-  called,
-  called_all,
-}
+use Rattle.format.specs.Tables.{Entry, block_len, values, deltas, cut_from}
+use Rattle.format.specs.Writing.{Waiting, for_key, for_value, finished, Written, Call, insert, insert_key, insert_value, finish, first, new, last_key, closes, open_from, open_block, refused, key_refusal, accepted_in, accepted, flush_refusal, entry_refusal, refusal_in, refusal, called, called_all}
 use Rattle.format.proofs.CodecLaws.{allowed_push}
 use Rattle.format.proofs.TableLaws.{values_push, open_step}
 

@@ -1,10 +1,10 @@
 -- What the bytes of an area tell: entries, and then an end or a fault.
-use Rattle.std.specs.Prelude.{ℕ, zero, suc, ◌+◌, ◌-◌, ◌*◌, ◌≤◌, Bool, true, false, cond, leb as at_most, List, [], ◌∷◌, ◌++◌, length, take, drop, Some, None, Ok, Err, Option, Result, ◌==◌, nat_lt, slice_index}
+use Rattle.std.specs.Prelude.{ℕ, zero, suc, ◌+◌, ◌-◌, ◌*◌, cond, List, [], ◌∷◌, ◌++◌, length, take, drop, Some, None, Ok, Err, Option, Result, ◌==◌, nat_lt, slice_index}
 use Rattle.format.specs.declared.Cursor.{Cursor}
 use Rattle.format.specs.Keys.{longest, follows}
 use Rattle.format.specs.Headers.{Header, read_header}
-use Rattle.format.specs.Faults.{Fault, fault, number, block, call, bad_number}
-use Rattle.format.specs.Codecs.{Flaw, flaw_at, Opened, Stepped}
+use Rattle.format.specs.Faults.{Fault, fault, block, call, bad_number}
+use Rattle.format.specs.Codecs.{flaw_at, Opened, Stepped}
 use Rattle.format.specs.Tables.{Entry}
 
 -- Where a reading stands between two entries.

@@ -1,5 +1,6 @@
 // The meaning of sorted string tables: definitions that the contracts of all crates cite (specs/), and the plain types
 // that they speak of.
+#![tactic(auto)]
 
 ghost use Rattle.std.specs.Prelude.{◌≡◌};
 ghost use Rattle.format.specs.Worked.{Worked};

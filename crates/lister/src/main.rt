@@ -1,4 +1,6 @@
 // Lists the sstable of u64 values on standard input.
+#![tactic(auto)]
+
 ghost use Rattle.std.specs.Prelude.{◌≤◌, length, IfOk};
 
 use listing::MOST_BYTES;

@@ -1,5 +1,7 @@
 // Lists each case of a table on standard input. A line has a name, a length and bytes in hexadecimal; zeros follow the bytes up to
 // the length.
+#![tactic(auto)]
+
 use std::alloc::{AllocError, Global};
 use std::io;
 use std::io::{BufRead, BufReader, Write};

@@ -1,16 +1,15 @@
 -- What a loop over a reading learns from each answer.
-use Rattle.std.proofs.Common.{◌≡◌, ℕ, suc, ◌+◌, ◌-◌, ◌<◌, ◌≤◌, List, [], ◌∷◌, ◌++◌, length, Some, None, Ok, Err, Option, Result, unwrap_or, sym, refl, ap, ◌∙◌, subst, append_assoc, arith, Bor}
+use Rattle.std.proofs.Common.{◌≡◌, ℕ, suc, ◌+◌, ◌-◌, ◌<◌, ◌≤◌, List, [], ◌++◌, length, Some, None, Ok, Err, Option, unwrap_or, sym, refl, ap, ◌∙◌, subst, append_assoc, arith, Bor}
 use Rattle.std.specs.Option.{option_map}
 use Rattle.format.specs.declared.Cursor.{Cursor}
 use Rattle.format.specs.Codecs.{Opened, Stepped}
 use Rattle.format.specs.Faults.{Fault}
-use Rattle.format.specs.Reading.{Position, Delta, Step, entry, ended, faulted, Standing, reading, at_end, stopped, after, answer, key_at, key_of, step, step_at, read_in, Reading, Ending, end, fails, behind, nothing}
-use Rattle.format.specs.Tables.{Entry}
+use Rattle.format.specs.Reading.{Position, Delta, Step, entry, ended, faulted, Standing, reading, after, answer, key_at, key_of, step, step_at, read_in, Reading, end, fails, behind, nothing}
 use Rattle.format.proofs.ReadingLaws.{Onward, Moves, step_moves}
 use Rattle.block.specs.declared.reader.Phase.{Phase}
 use Rattle.block.specs.declared.reader.Phase.TheVariants as phase
 use Rattle.block.specs.Readers.{standing_in}
-use Rattle.listing.specs.Listing.{line, lines, last_line, listed}
+use Rattle.listing.specs.Listing.{line, last_line, listed}
 
 -- a reader that stands somewhere stands at its position
 pub stands_at : (ph : Phase) (p q : Position) → standing_in ph p ≡ reading q → (p ≡ q) × (standing_in ph p ≡ reading p)

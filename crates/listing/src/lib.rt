@@ -1,4 +1,6 @@
 // What the bytes of an sstable of u64 values tell, as text: a line for each entry, then one for the end or the fault.
+#![tactic(auto)]
+
 ghost use Rattle.std.specs.Prelude.{◌≡◌, ℕ, ◌≤◌, ◌++◌, length, IfOk, OnOk};
 ghost use Rattle.format.specs.Monotonic.{u64_opens, u64_steps};
 ghost use Rattle.format.specs.Reading.{read_area};

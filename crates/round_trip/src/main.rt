@@ -1,4 +1,6 @@
 // Builds an sstable of u64 values from the lines on standard input, and lists it.
+#![tactic(auto)]
+
 use building::build;
 use std::io;
 use std::io::{Read, Write};

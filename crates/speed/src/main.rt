@@ -1,5 +1,7 @@
 // Writes a million entries and lists them, five times: tells the sstable's length and a checksum on standard output, the
 // best times on standard error.
+#![tactic(auto)]
+
 use anyhow::anyhow;
 use block::reader::DeltaReader;
 use codec::u64_monotonic::U64MonotonicValues;

@@ -1,7 +1,7 @@
 -- How entries are cut into blocks: what is closed, what is open, and one entry more.
-use Rattle.std.proofs.Common.{◌≡◌, ℕ, suc, ◌+◌, ◌-◌, ◌<◌, ◌≤◌, Bool, true, false, cond, List, [], ◌∷◌, ◌++◌, length, sym, refl, ap, ◌∙◌, append_assoc, arith}
+use Rattle.std.proofs.Common.{◌≡◌, ℕ, Bool, true, false, cond, List, [], ◌∷◌, ◌++◌, sym, refl, ap, ◌∙◌, append_assoc}
 use Rattle.std.proofs.lemmas.List.{append-nil}
-use Rattle.format.specs.Tables.{Entry, values, deltas_after, deltas, delta, cut_from, cut, block, blocks, sstable, word}
+use Rattle.format.specs.Tables.{Entry, cut_from, block, blocks, sstable, word}
 use Rattle.format.proofs.TableLaws.{open_step}
 use Rattle.format.specs.Writing.{closes, open_from, closed_from, open_block, closed_blocks, closed_bytes, finishing}
 

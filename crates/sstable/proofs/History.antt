@@ -1,15 +1,15 @@
 -- A list of calls on a new writer.
-use Rattle.std.proofs.Common.{◌≡◌, ℕ, ◌+◌, ◌-◌, ◌≤◌, Bool, true, false, cond, List, [], ◌∷◌, ◌++◌, length, take, drop, is_ok, Some, None, Ok, Err, Option, Result, sym, refl, ap, ◌∙◌, subst, append_assoc, arith, length-append, length-drop}
+use Rattle.std.proofs.Common.{◌≡◌, ℕ, ◌+◌, ◌≤◌, Bool, true, false, cond, List, [], ◌∷◌, ◌++◌, length, take, drop, is_ok, Some, None, Ok, Err, Option, Result, sym, refl, ap, ◌∙◌, subst, append_assoc, arith, length-append, length-drop}
 use Rattle.std.proofs.lemmas.List.{take_at, drop_at, drop-drop}
 use Rattle.std.proofs.lemmas.Bool.{cond-true, cond-false}
 use Rattle.format.specs.Buffers.{written}
 use Rattle.format.specs.Faults.{Fault, told}
 use Rattle.format.specs.Laws.{Writes}
-use Rattle.format.specs.Tables.{Entry, sstable}
-use Rattle.format.specs.Writing.{Waiting, finished, for_key, Written, Call, new, refusal, answered, accepted, called, called_all, answers, output, output_in, overwritten}
+use Rattle.format.specs.Tables.{sstable}
+use Rattle.format.specs.Writing.{Waiting, Written, Call, new, refusal, answered, accepted, called, called_all, answers, output, output_in, overwritten}
 use Rattle.writer.specs.States as states
 use Rattle.writer.specs.States.{State, Answer}
-use Rattle.sstable.proofs.Standings.{state_of, Open}
+use Rattle.sstable.proofs.Standings.{state_of}
 use Rattle.sstable.proofs.Steps.{Holds, answer_is, After, after_is}
 
 -- Outputs whose first bytes were written.

@@ -1,11 +1,11 @@
 -- A finished sstable reads as the taken entries.
-use Rattle.std.proofs.Common.{◌≡◌, ℕ, Bool, List, ◌++◌, length, drop, sym, refl, ap, ◌∙◌}
+use Rattle.std.proofs.Common.{◌≡◌, ℕ, Bool, List, ◌++◌, length, drop, ap, ◌∙◌}
 use Rattle.format.specs.declared.Cursor.{Cursor}
 use Rattle.format.specs.Codecs.{Opened, Stepped, ReadsBack, Short}
 use Rattle.format.specs.Laws.{writer, ReadsTaken}
 use Rattle.format.specs.Reading.{read_area}
 use Rattle.format.specs.Tables.{sstable}
-use Rattle.format.specs.Writing.{Waiting, Call, Written, output_in, output, overwritten}
+use Rattle.format.specs.Writing.{Waiting, Call, output_in, output, overwritten}
 use Rattle.format.proofs.ReadBack.{table_back}
 use Rattle.format.proofs.TakenSound.{taken_sound}
 

@@ -1,25 +1,21 @@
 -- The state of a writer, as a function of the entries that it has taken and what it waits for.
-use Rattle.std.proofs.Common.{◌≡◌, ℕ, suc, ◌+◌, ◌-◌, ◌*◌, ◌^◌, ◌<◌, ◌≤◌, Bool, true, false, cond, ◌&&◌, eqb, ltb, ◌⊎◌, List, [], ◌∷◌, ◌++◌, length, take, drop, Some, None, Ok, Err, Option, sym, refl, ap, ◌∙◌, subst, inl, inr, ⊎_elim, append_assoc, arith, length-append, length-drop}
-use Rattle.std.proofs.lemmas.List.{append-nil, length_push, take_at, drop_at, drop-drop}
-use Rattle.std.proofs.lemmas.Bool.{lt-ltb, le-ltb, ltb-true, ltb-false, ne_eqb, eqb-true, cond-true, cond-false, cond_both, cases_lt}
-use Rattle.format.specs.Buffers.{written}
-use Rattle.format.specs.Codecs.{takes, most}
-use Rattle.format.specs.Faults.{Fault, fault, codec, call}
+use Rattle.std.proofs.Common.{◌≡◌, ℕ, suc, ◌+◌, ◌-◌, ◌*◌, ◌<◌, ◌≤◌, Bool, true, false, cond, ◌&&◌, eqb, List, [], ◌∷◌, ◌++◌, length, drop, Some, None, Option, sym, refl, ap, ◌∙◌, subst, arith, length-append, length-drop}
+use Rattle.std.proofs.lemmas.List.{length_push}
+use Rattle.std.proofs.lemmas.Bool.{lt-ltb, ltb-false, ne_eqb, cond-false}
+use Rattle.format.specs.Codecs.{takes}
 use Rattle.format.specs.Headers.{header}
-use Rattle.format.specs.Keys.{below, shared, follows, longest}
-use Rattle.format.specs.Numbers.{leb}
-use Rattle.format.specs.Tables.{Entry, values, deltas_after, deltas, delta, cut_from, block, blocks, sstable, word, block_len}
+use Rattle.format.specs.Keys.{below, shared, follows}
+use Rattle.format.specs.Tables.{Entry, values, deltas_after, deltas, delta, block_len}
 use Rattle.format.specs.Writing as writing
 use Rattle.format.specs.Writing.{Waiting, for_key, for_value, finished, Written, Call, closes, open_block, closed_bytes, finishing, output, overwritten}
 use Rattle.writer.specs.declared.phase.Phase.{Phase}
 use Rattle.writer.specs.declared.phase.Phase.TheVariants.{WaitsForKey, WaitsForValue, Finished}
 use Rattle.writer.specs.Parts as parts
-use Rattle.writer.specs.States as states
 use Rattle.writer.specs.States.{State}
 use Rattle.format.proofs.EntryBack.{shared_less}
 use Rattle.format.proofs.HeaderLaws.{header_some}
-use Rattle.format.proofs.TableLaws.{last_after as last_or, values_push, deltas_push, last_push}
-use Rattle.sstable.proofs.Cuts.{open_push, closed_push, sstable_parts}
+use Rattle.format.proofs.TableLaws.{last_after as last_or, deltas_push, last_push}
+use Rattle.sstable.proofs.Cuts.{open_push}
 
 abbrev pub phase_of : Waiting → Phase
 phase_of for_key = WaitsForKey

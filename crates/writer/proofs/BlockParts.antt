@@ -1,7 +1,7 @@
 -- Lengths of blocks, and blocks written part by part.
-use Rattle.std.proofs.Common.{◌≡◌, ℕ, suc, ◌+◌, ◌-◌, ◌*◌, ◌<◌, ◌≤◌, Bool, true, false, cond, ltb, leb as at_most, List, [], ◌∷◌, ◌++◌, length, get_or, take, drop, set, sym, refl, ap, ◌∙◌, append_assoc, arith, length-append, length-drop}
+use Rattle.std.proofs.Common.{◌≡◌, ℕ, ◌+◌, ◌-◌, ◌<◌, ◌≤◌, Bool, true, cond, ltb, leb as at_most, List, [], ◌∷◌, ◌++◌, length, get_or, take, drop, set, sym, refl, ap, ◌∙◌, append_assoc, arith, length-append, length-drop}
 use borrow.Rule.Slice.PartMut.{put_mid}
-use Rattle.std.proofs.lemmas.List.{drop_more, set_at, length_push, take-append-drop, take_at, drop_at, drop-drop, length-take-le, length-set, append-nil, drop_all}
+use Rattle.std.proofs.lemmas.List.{drop_more, set_at, length_push, take-append-drop, take_at, drop_at, length-take-le, length-set, append-nil, drop_all}
 use Rattle.std.proofs.lemmas.Bool.{lt-ltb, le-ltb, ltb-true, cond-true, cond-false, le-leb, and_parts}
 use Rattle.format.specs.Buffers.{written}
 use Rattle.format.specs.Codecs.{Allowed, Short, takes, most}

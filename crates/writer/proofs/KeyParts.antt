@@ -1,11 +1,9 @@
 -- Keys that share a front, and what one takes in the delta part.
-use Rattle.std.proofs.Common.{◌≡◌, ℕ, zero, suc, ◌+◌, ◌-◌, ◌*◌, ◌^◌, ◌<◌, ◌≤◌, min, Bool, true, false, cond, ◌&&◌, eqb, ltb, List, [], ◌∷◌, ◌++◌, length, get_or, take, drop, is_ok, IfErr, Ok, Err, Result, sym, refl, ap, ◌∙◌, inl, inr, append_assoc, arith, length-append, length-drop}
+use Rattle.std.proofs.Common.{◌≡◌, ℕ, suc, ◌+◌, ◌-◌, ◌<◌, ◌≤◌, min, true, cond, eqb, List, [], ◌∷◌, ◌++◌, length, get_or, take, drop, is_ok, IfErr, Ok, Err, Result, refl, ap, ◌∙◌, inl, inr, append_assoc, arith, length-append, length-drop}
 use Rattle.std.proofs.lemmas.List.{drop_more, drop_all, take_rest}
-use Rattle.std.proofs.lemmas.Bool.{eq-eqb, ne_eqb, cases_lt, cond-true, cond-false, cond_both}
+use Rattle.std.proofs.lemmas.Bool.{eq-eqb, ne_eqb, cases_lt, cond-true, cond-false}
 use Rattle.format.specs.Headers.{header}
 use Rattle.format.specs.Keys.{shared}
-use Rattle.format.specs.Numbers.{leb}
-use Rattle.format.proofs.NumberLaws.{leb_ten}
 use Rattle.writer.specs.Parts.{entry}
 
 shared_both : (a b : List ℕ) (i : ℕ) → i < length a → i < length b

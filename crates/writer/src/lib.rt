@@ -1,4 +1,6 @@
 // Writing sstables.
+#![tactic(auto)]
+
 mod calls;
 mod checks;
 pub mod fault;

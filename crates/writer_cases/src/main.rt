@@ -1,5 +1,7 @@
 // Writes each case of a table on standard input. A line has a codec and entries, parted by spaces; an entry has a key in
 // hexadecimal, or - for the empty one, a colon, and a value. The answer is the bytes of the sstable, or the first fault.
+#![tactic(auto)]
+
 mod parse;
 
 use codec::range::RangeValues;

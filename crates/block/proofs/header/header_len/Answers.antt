@@ -1,4 +1,4 @@
-use Rattle.std.proofs.Common.{◌≡◌, suc, ◌+◌, ◌∷◌, ◌++◌, length, ap, ◌∙◌, arith, length-append}
+use Rattle.std.proofs.Common.{◌≡◌, suc, ◌+◌, length, ap, ◌∙◌, arith, length-append}
 use Rattle.format.specs.Headers.{header}
 use Rattle.format.specs.Numbers.{leb}
 use Rattle.format.proofs.HeaderLaws.{header_long}

@@ -1,4 +1,4 @@
-use Rattle.std.proofs.Common.{◌≡◌, ℕ, ◌+◌, ◌≤◌, true, cond, leb as at_most, List, ◌++◌, length, Some, None, Option, unwrap_or, sym, ap, ◌∙◌, arith, length-append}
+use Rattle.std.proofs.Common.{◌≡◌, ℕ, ◌+◌, ◌≤◌, true, cond, leb as at_most, List, length, Some, None, Option, unwrap_or, ap, ◌∙◌, arith, length-append}
 use Rattle.std.proofs.lemmas.Bool.{cond-true, le-leb}
 use Rattle.format.specs.Buffers.{written}
 use Rattle.format.specs.Numbers.{leb}

@@ -1,4 +1,4 @@
-use Rattle.std.proofs.Common.{sym, refl, ◌∙◌, arith}
+use Rattle.std.proofs.Common.{sym, ◌∙◌, arith}
 use Rattle.format.proofs.KeyLaws.{below_step, below_stop, below_end}
 use Rattle.block.proofs.keys.is_below.Goals as goal
 

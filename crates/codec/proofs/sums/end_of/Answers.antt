@@ -1,7 +1,6 @@
-use Rattle.std.proofs.Common.{◌≡◌, Bool, true, false, Ok, Err, Result, sym, ap, ◌∙◌, arith}
+use Rattle.std.proofs.Common.{◌≡◌, Bool, true, false, Ok, sym, ap, ◌∙◌}
 use Rattle.std.proofs.lemmas.Result.{err_from_is_err_and}
 use Rattle.format.specs.Codecs.{placed}
-use Rattle.format.specs.Faults.{Fault}
 use Rattle.format.specs.Sums.{rise, moves}
 use Rattle.format.proofs.SumLaws.{walks_on, walks_to_end, walks_to_flaw}
 use Rattle.codec.specs.Told.{of_codec}

@@ -1,6 +1,5 @@
-use Rattle.std.proofs.Common.{◌≡◌, ◌<◌, List, length, sym, ap, ◌∙◌, arith}
+use Rattle.std.proofs.Common.{◌<◌, length, sym, ap, ◌∙◌, arith}
 use Rattle.format.specs.Buffers.{written}
-use Rattle.format.specs.Numbers.{leb}
 use Rattle.format.proofs.BufferLaws.{written_one, written_next}
 use Rattle.format.proofs.NumberLaws.{leb_last, leb_more, leb_some}
 use Rattle.codec.proofs.vint.put.Goals as goal

@@ -1,4 +1,4 @@
-use Rattle.std.proofs.Common.{◌≡◌, ℕ, List, [], ◌∷◌, ◌++◌, vec_items, codes, decimal, sym, ap, ◌∙◌, append_assoc}
+use Rattle.std.proofs.Common.{ℕ, List, [], ◌∷◌, ◌++◌, vec_items, codes, decimal, ap, ◌∙◌, append_assoc}
 use Rattle.block.specs.Told.{of_read}
 use Rattle.listing.proofs.Pieces.{behind}
 use Rattle.listing.proofs.text.push_fault.Goals as goal

@@ -1,4 +1,4 @@
-use Rattle.std.proofs.Common.{◌≡◌, ℕ, List, [], ◌∷◌, ◌++◌, vec_items, decimal, sym, ap, ◌∙◌, append_assoc}
+use Rattle.std.proofs.Common.{◌≡◌, ℕ, List, [], ◌∷◌, ◌++◌, vec_items, decimal, ap, ◌∙◌, append_assoc}
 use Rattle.listing.specs.Listing.{hex}
 use Rattle.listing.proofs.Pieces.{behind}
 use Rattle.listing.proofs.text.push_line.Goals as goal

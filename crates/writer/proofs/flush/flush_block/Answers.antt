@@ -1,5 +1,4 @@
-use Rattle.std.proofs.Common.{◌≡◌, ℕ, ◌+◌, ◌-◌, length, refl, arith, rules}
-use Rattle.format.proofs.BufferLaws.{written_part}
+use Rattle.std.proofs.Common.{◌+◌, length, arith}
 use Rattle.writer.specs.Parts.{block}
 use Rattle.writer.proofs.BlockParts.{block_length, written_to}
 use Rattle.writer.proofs.flush.flush_block.Goals as goal

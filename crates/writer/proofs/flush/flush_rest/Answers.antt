@@ -1,4 +1,4 @@
-use Rattle.std.proofs.Common.{◌≡◌, ℕ, ◌+◌, List, length, sym, refl, ap, ◌∙◌, arith, true-eqb}
+use Rattle.std.proofs.Common.{◌≡◌, length, sym, ap, ◌∙◌, arith, true-eqb}
 use Rattle.format.specs.Buffers.{written}
 use Rattle.format.proofs.BufferLaws.{written_none}
 use Rattle.writer.proofs.BlockParts.{rest_none}

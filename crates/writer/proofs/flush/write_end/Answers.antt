@@ -1,4 +1,4 @@
-use Rattle.std.proofs.Common.{◌+◌, [], ◌∷◌, refl}
+use Rattle.std.proofs.Common.{◌+◌, refl}
 use Rattle.format.specs.Tables.{word}
 use Rattle.writer.proofs.BlockParts.{written_to}
 use Rattle.writer.proofs.flush.write_end.Goals as goal

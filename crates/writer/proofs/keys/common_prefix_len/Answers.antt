@@ -1,4 +1,4 @@
-use Rattle.std.proofs.Common.{sym, ◌∙◌, arith}
+use Rattle.std.proofs.Common.{arith}
 use Rattle.writer.proofs.KeyParts.{shared_step, shared_stop, shared_end}
 use Rattle.writer.proofs.keys.common_prefix_len.Goals as goal
 

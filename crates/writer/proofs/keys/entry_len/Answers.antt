@@ -1,4 +1,4 @@
-use Rattle.std.proofs.Common.{◌≡◌, ℕ, ◌+◌, ◌-◌, length, ap, arith}
+use Rattle.std.proofs.Common.{ℕ, ◌+◌, ◌-◌, length, ap, arith}
 use Rattle.format.specs.Headers.{header}
 use Rattle.writer.proofs.KeyParts.{entry_length}
 use Rattle.writer.proofs.keys.entry_len.Goals as goal

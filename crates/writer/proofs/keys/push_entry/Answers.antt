@@ -1,9 +1,8 @@
-use Rattle.std.proofs.Common.{◌≡◌, ℕ, ◌+◌, ◌-◌, ◌<◌, true, length, is_ok, vec_items, vec_len, vec_capacity, ap, ◌∙◌, arith, length-append}
+use Rattle.std.proofs.Common.{◌≡◌, ◌+◌, ◌-◌, ◌<◌, true, length, is_ok, vec_items, vec_len, vec_capacity, ap, ◌∙◌, arith, length-append}
 use Rattle.std.proofs.lemmas.Bool.{cond-true}
 use Rattle.format.specs.Headers.{header}
-use Rattle.writer.specs.Parts.{entry}
 use Rattle.format.proofs.HeaderLaws.{header_some, header_short}
-use Rattle.writer.proofs.KeyParts.{entry_length, entry_pushed, ok_since}
+use Rattle.writer.proofs.KeyParts.{entry_pushed, ok_since}
 use Rattle.writer.proofs.keys.push_entry.Goals as goal
 
 pub returns : goal.returns

@@ -1,7 +1,6 @@
 use Rattle.std.proofs.Common.{◌≡◌, ◌+◌, ◌<◌, ◌≤◌, length, IfSome, Ok, Option, sym, ap, ◌∙◌, subst, arith}
 use Rattle.format.specs.Reading.{content}
 use Rattle.block.specs.declared.frame.Block.{Block}
-use Rattle.block.specs.Blocks.{read_block}
 use Rattle.block.specs.Readers.{position_of}
 use Rattle.block.proofs.BlockReads.{placed_ok, first_entry}
 use Rattle.block.proofs.reader.DeltaReader.next_block.Goals as goal

@@ -1,4 +1,4 @@
-use Rattle.std.proofs.Common.{vec_items, arith, rules}
+use Rattle.std.proofs.Common.{vec_items, rules}
 use Rattle.writer.proofs.BlockParts.{ending_length}
 use Rattle.writer.proofs.writer.Writer.check_finish.Goals as goal
 

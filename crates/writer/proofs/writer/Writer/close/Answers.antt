@@ -1,5 +1,4 @@
-use Rattle.std.proofs.Common.{◌≡◌, ℕ, ◌+◌, ◌≤◌, List, ◌++◌, length, vec_items, sym, refl, ap, ◌∙◌, arith, rules}
-use Rattle.format.specs.Buffers.{written}
+use Rattle.std.proofs.Common.{◌≡◌, ℕ, ◌+◌, List, ◌++◌, length, vec_items, ap, arith, rules}
 use Rattle.format.specs.Tables.{word}
 use Rattle.writer.specs.States.{rest}
 use Rattle.writer.proofs.BlockParts.{ending_length, written_again}

@@ -1,4 +1,4 @@
-use Rattle.std.proofs.Common.{◌≡◌, List, [], ◌∷◌, ◌++◌, vec_items, sym, refl, ap, ◌∙◌, rules}
+use Rattle.std.proofs.Common.{[], ◌∷◌, ◌++◌, vec_items, rules}
 use Rattle.writer.specs.Parts.{entry, before}
 use Rattle.writer.proofs.BlockParts.{nothing_flushed}
 use Rattle.writer.proofs.writer.Writer.take_entry.Goals as goal
