@@ -1,4 +1,2 @@
 pub mod BlockReads
-pub mod EntryReads
-pub mod HeaderReads
-pub mod LastKeys
+pub mod Fronts

@@ -1,6 +1,7 @@
 pub mod Told
 pub mod HeaderBack
-pub mod Keyed
+pub mod Headers
 pub mod Blocks
 pub mod Entries
 pub mod Readers
+pub mod Positions

@@ -4,7 +4,8 @@ use Rattle.block.specs.declared.fault.BlockFault.TheVariants as block_fault
 use Rattle.block.specs.declared.fault.ReadFault.{ReadFault}
 use Rattle.block.specs.declared.fault.ReadFault.TheVariants as read_fault
 use Rattle.codec.specs.Told.{of_number, of_codec}
-use Rattle.format.specs.Faults.{Fault, fault, block, call}
+use Rattle.format.specs.declared.fault.Fault.{Fault}
+use Rattle.format.specs.Faults.{fault, block, call}
 
 abbrev pub of_block : BlockFault → Fault
 of_block (block_fault.Number e) = of_number e

@@ -1,113 +1,91 @@
 // An entry of a block.
-ghost use Rattle.std.specs.Prelude.{◌≡◌, ℕ, ◌+◌, ◌-◌, ◌<◌, ◌≤◌, Bool, cond, [], ◌++◌, length, take, IfOk, OnOk};
-ghost use Rattle.format.specs.Codecs.{placed};
-ghost use Rattle.format.specs.Faults.{told};
-ghost use Rattle.format.specs.Keys.{follows};
-ghost use Rattle.format.specs.Reading.{suffix_at, key_with, key_of, content as content_of, entry_at};
-ghost use Rattle.block.specs.Entries.{told_suffix, suffixed, accepts, base_of, entry_of, position};
-ghost use Rattle.block.specs.Keyed.{last_of};
+ghost use Rattle.codec.specs.Meanings.{meaning};
+ghost use Rattle.std.specs.Prelude.{◌≡◌, ℕ, ◌+◌, ◌<◌, ◌≤◌, ◌++◌, length, take, IfOk, OnOk};
+ghost use Rattle.format.specs.Keys.{longest, follows};
+ghost use Rattle.format.specs.Reading.{suffix_at, key_of};
+ghost use Rattle.block.specs.Entries.{told_suffix, suffixed, accepts, key_after, entry_of, entry_in, IsAtEntry};
 ghost use Rattle.block.specs.Told.{of_block};
+ghost use Rattle.format.specs.Faults.{told};
 
 use crate::fault::BlockFault;
-use crate::found::{Delta, Found, Suffix};
-use crate::frame::Block;
+use crate::found::{Delta, Suffix};
 use crate::header::read_keep_add;
-use crate::keys::is_below;
-use crate::last_key::{KEY_MAX_LEN, LastKey};
+use crate::keys::{KEY_MAX_LEN, is_below};
+use crate::position::{Position, set_key};
 use codec::value::Codec;
-use format::Cursor;
 
-// The suffix at a header of a block that ends at `end`.
-fn read_suffix(area: &[u8], next: usize, end: usize) -> Result<Suffix<'_>, BlockFault>
-    requires { end ≤ length area.now }
-    ensures answer { told_suffix result ≡ suffix_at area.now next end }
-    ensures within { IfOk result (λ s. (next < s.place) × (s.place + length s.bytes.now ≤ end)) }
-{
-    let mut offset = next;
-    let (keep, add) = read_keep_add(&area[0..end], &mut offset)?;
-    if add > end - offset {
-        return Err(BlockFault::Suffix { place: next });
+impl Position {
+    // The suffix at the next header.
+    fn read_suffix<'a>(&self, area: &'a [u8]) -> Result<Suffix<'a>, BlockFault>
+        requires { self.now.finish ≤ length area.now }
+        ensures answer { told_suffix result ≡ suffix_at area.now self.now.next self.now.finish }
+        ensures within { IfOk result (λ s. (self.now.next < s.place)
+            × (s.place + length s.bytes.now ≤ self.now.finish)) }
+    {
+        let mut offset = self.next;
+        let (keep, add) = read_keep_add(&area[..self.finish], &mut offset)?;
+        if add > self.finish - offset {
+            return Err(BlockFault::Suffix { place: self.next });
+        }
+        Ok(Suffix {
+            keep,
+            place: offset,
+            bytes: &area[offset..offset + add],
+        })
     }
-    Ok(Suffix {
-        keep,
-        place: offset,
-        bytes: &area[offset..offset + add],
-    })
-}
 
-// How many bytes of the key before an entry may keep: none at a block's first.
-fn base_len(last: &LastKey, first: bool) -> usize
-    ensures value { result ≡ length (base_of first (last_of last.now)) }
-    ensures short { result ≤ 512 }
-{
-    if first { 0 } else { last.get().len() }
-}
+    // Whether the key with this suffix may follow the key before.
+    fn follows_last(&self, suffix: Suffix<'_>) -> bool
+        requires { suffix.keep ≤ length (key_of self.now.last) }
+        ensures { result ≡ follows self.now.last
+            (take suffix.entry.keep (key_of self.now.last) ++ suffix.entry.bytes.now) }
+    {
+        self.key()
+            .is_none_or(|key| is_below(&key[suffix.keep..], suffix.bytes))
+    }
 
-// Whether the key with this suffix may follow the key before.
-fn follows_last(last: &LastKey, first: bool, suffix: Suffix<'_>) -> bool
-    requires { suffix.keep ≤ length (base_of first (last_of last.now)) }
-    ensures { result ≡ follows (last_of last.now) (take suffix.entry.keep (base_of first (last_of last.now)) ++ suffix.entry.bytes.now) }
-{
-    if !last.some {
-        return true;
+    // Whether a suffix, which may keep so many bytes of the key before, makes a key that may follow.
+    fn check_key(&self, keep_max: usize, suffix: Suffix<'_>) -> Result<(), BlockFault>
+        requires { keep_max ≤ length (key_of self.now.last) }
+        ensures answer { told of_block result ≡ accepts (key_after keep_max self.now (suffixed suffix.entry)) }
+        ensures kept { OnOk result (suffix.entry.keep ≤ keep_max) }
+        ensures short { OnOk result (suffix.entry.keep + length suffix.entry.bytes.now ≤ longest) }
+    {
+        if suffix.keep > keep_max || !self.follows_last(suffix) {
+            return Err(BlockFault::Order { place: self.next });
+        }
+        if suffix.bytes.len() > KEY_MAX_LEN - suffix.keep {
+            return Err(BlockFault::Length { place: self.next });
+        }
+        Ok(())
     }
-    let key = last.get();
-    is_below(&key[suffix.keep..], suffix.bytes)
-}
 
-// Whether a suffix makes a key that may follow.
-fn check_key(last: &LastKey, first: bool, suffix: Suffix<'_>, next: usize) -> Result<(), BlockFault>
-    ensures answer { told of_block result ≡ accepts (key_with next (last_of last.now) (base_of first (last_of last.now)) (suffixed suffix.entry)) }
-    ensures kept { OnOk result (suffix.entry.keep ≤ length (base_of first (last_of last.now))) }
-    ensures short { OnOk result (suffix.entry.keep + length suffix.entry.bytes.now ≤ 512) }
-{
-    if suffix.keep > base_len(last, first) {
-        return Err(BlockFault::Order { place: next });
-    }
-    if !follows_last(last, first, suffix) {
-        return Err(BlockFault::Order { place: next });
-    }
-    if suffix.bytes.len() > KEY_MAX_LEN - suffix.keep {
-        return Err(BlockFault::Length { place: next });
-    }
-    Ok(())
-}
-
-// The entry at a header of a block, behind the key before.
-pub(crate) fn read_entry<'a, C: Codec>(
-    area: &'a [u8],
-    block: Block,
-    next: usize,
-    values: Cursor,
-    last: &LastKey,
-    first: bool,
-    ordinal: u64,
-) -> Result<Found<'a, C::Value>, BlockFault>
-    requires within { block.end ≤ length area.now }
-    requires behind { block.start + 5 ≤ block.end }
-    ensures answer { entry_of (last_of last.now) ordinal result ≡ entry_at C.Codec.opens C.Codec.steps area.now (position block next values (last_of last.now) ordinal) (base_of first (last_of last.now)) }
-    ensures standing { IfOk result (λ f. (f.block ≡ block) × (next < f.next) × (f.next ≤ block.end)) }
-    ensures keyed { IfOk result (λ f. (f.delta.keep ≤ length (key_of (last_of last.now))) × (f.delta.keep + length f.delta.suffix.now ≤ 512)) }
-{
-    let Block { start, end } = block;
-    let suffix = read_suffix(area, next, end)?;
-    check_key(last, first, suffix, next)?;
-    let mut cursor = values;
-    let Some(value) = C::next_value(&mut cursor, &area[start + 5..end], start + 5)? else {
-        return Err(BlockFault::NoValue { place: next });
-    };
-    let Suffix { keep, place, bytes } = suffix;
-    let next = place + bytes.len();
-    Ok(Found {
-        block,
-        next,
-        cursor,
-        delta: Delta {
+    // Reads the entry at the next header, which may keep so many bytes of the key before.
+    pub(crate) fn read_entry<'a, C: Codec>(
+        &mut self,
+        area: &'a [u8],
+        keep_max: usize,
+    ) -> Result<Delta<'a, C::Value>, BlockFault>
+        requires { IsAtEntry area.now self.old keep_max }
+        ensures { entry_of result self.new ≡ entry_in (meaning C.Codec) area.now self.old keep_max }
+    {
+        let suffix = self.read_suffix(area)?;
+        self.check_key(keep_max, suffix)?;
+        let content = self.block().content(area);
+        let Some(value) = C::next_value(&mut self.cursor, content)? else {
+            return Err(BlockFault::NoValue { place: self.next });
+        };
+        let Suffix { keep, place, bytes } = suffix;
+        let ordinal = self.ordinal;
+        set_key(&mut self.last, keep, bytes);
+        self.next = place + bytes.len();
+        self.ordinal += 1;
+        Ok(Delta {
             keep,
             suffix: bytes,
             place,
             ordinal,
             value,
-        },
-    })
+        })
+    }
 }

@@ -1,6 +1,4 @@
 // What is found in a block.
-use crate::frame::Block;
-use format::Cursor;
 
 // How many bytes of the key before a suffix follows, where it stands, and its bytes.
 #[derive(Clone, Copy)]
@@ -10,8 +8,8 @@ pub(crate) struct Suffix<'a> {
     pub(crate) bytes: &'a [u8],
 }
 
-// An entry as it stands in the area: what it keeps of the key before, the suffix as a part of the area with its place, its
-// ordinal and its value.
+// An entry as it stands in the area: what it keeps of the key before, the suffix as a part of the area with its place,
+// its ordinal and its value.
 #[derive(Clone, Copy)]
 pub struct Delta<'a, V> {
     pub keep: usize,
@@ -19,13 +17,4 @@ pub struct Delta<'a, V> {
     pub place: usize,
     pub ordinal: u64,
     pub value: V,
-}
-
-// An entry, and where a reader stands behind it.
-#[derive(Clone, Copy)]
-pub(crate) struct Found<'a, V> {
-    pub(crate) block: Block,
-    pub(crate) next: usize,
-    pub(crate) cursor: Cursor,
-    pub(crate) delta: Delta<'a, V>,
 }

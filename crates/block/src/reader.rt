@@ -1,14 +1,10 @@
 // A reader of the entries of an area, under a codec.
-ghost use Rattle.std.specs.Prelude.{ℕ, ◌+◌, ◌<◌, ◌≤◌};
-
 use crate::fault::ReadFault;
-use crate::frame::Block;
-use crate::last_key::LastKey;
+use crate::position::Position;
 use codec::value::Codec;
-use format::Cursor;
-use std::marker::PhantomData;
+use std::marker::{Model, PhantomData};
 
-// An end and a fault are remembered.
+// An end and a fault are remembered. Three states, each with a name: an Option of a Result would say them no plainer.
 #[derive(Clone, Copy)]
 pub(crate) enum Phase {
     Reading,
@@ -18,16 +14,17 @@ pub(crate) enum Phase {
 
 #[derive(Drop)]
 pub struct DeltaReader<C: Codec> {
-    // the block being read, or last read
-    pub(crate) block: Block,
-    // the next header; the block's end where it is used up
-    pub(crate) next: usize,
-    pub(crate) cursor: Cursor,
-    pub(crate) last: LastKey,
-    pub(crate) ordinal: u64,
+    pub(crate) position: Position,
     pub(crate) phase: Phase,
     pub(crate) codec: PhantomData<C>,
-    ghost within: { next ≤ block.end },
-    ghost behind: { (next < block.end → block.start + 5 ≤ next) },
-    ghost counted: { ordinal ≤ next },
+}
+
+impl<C: Codec> Model for DeltaReader<C> {
+    ghost use Rattle.format.specs.Reading.{Standing};
+
+    ghost Value = { Standing };
+
+    ghost use Rattle.block.specs.Readers.{standing_in};
+
+    ghost view = { λ r. standing_in r.phase r.position };
 }

@@ -2,24 +2,19 @@
 // on standard error.
 #![tactic(auto)]
 
-use anyhow::anyhow;
-use building::build;
+use anyhow::bail;
+use building::build_vec;
 use std::io::{Read, Write};
-
-const OUTPUT_LEN: usize = 1_048_576;
 
 fn main(rt: HostRuntime) -> anyhow::Result<()> {
     let mut text = Vec::new(rt.alloc());
     rt.stdin().read_to_end(&mut text)?;
-    let mut output = vec![in rt.alloc(); 0; OUTPUT_LEN]?;
-    match build(rt.alloc(), &text, &mut output) {
-        Ok(len) => {
-            rt.stdout().write_all(&output[..len])?;
-            Ok(())
-        }
+    match build_vec(rt.alloc(), &text) {
+        Ok(sstable) => rt.stdout().write_all(&sstable)?,
         Err(fault) => {
             eprintln!(rt; "{fault}")?;
-            Err(anyhow!("nothing is built"))
+            bail!("nothing is built");
         }
     }
+    Ok(())
 }

@@ -1,55 +1,32 @@
 -- What a loop over lines learns from each call on the writer.
-use Rattle.std.proofs.Common.{◌≡◌, ℕ, ◌+◌, ◌<◌, ◌≤◌, false, cond, eqb, List, [], ◌∷◌, ◌++◌, length, take, drop, is_ok, Some, None, Ok, Err, Option, Result, sym, refl, ap, ◌∙◌, subst, inl, inr, add-one, arith, length-drop}
-use Rattle.std.proofs.lemmas.List.{drop-drop, drop_all}
-use Rattle.std.proofs.lemmas.Bool.{cond-true, cond-false, cases_Bool}
-use Rattle.format.specs.Buffers.{written}
-use Rattle.format.specs.Faults.{Fault, told}
-use Rattle.format.specs.Monotonic.{u64_rule, u64_bytes}
+use Rattle.std.proofs.Common.{vec_items, ◌≡◌, ℕ, ◌+◌, ◌≤◌, ltb, List, [], ◌∷◌, ◌++◌, length, Some, None, Ok, Err, Option, Result, sym, refl, ap, ◌∙◌, subst, arith}
+use Rattle.std.proofs.lemmas.Bool.{ltb-false}
+use Rattle.std.specs.Result.{MatchResult}
+use Rattle.format.specs.declared.fault.Fault.{Fault}
+use Rattle.format.specs.Faults.{told, fault, call as call_layer}
+use Rattle.format.specs.Monotonic.{u64_meaning, u64_bytes}
 use Rattle.format.specs.Tables.{Entry, sstable}
 use Rattle.format.specs.Writing.{Written, Call, insert, finish, refusal, answered, accepted, called, output, overwritten}
-use Rattle.sstable.proofs.History.{Kept, kept_new, kept_case, called_none, Does, does_case, over_length}
-use Rattle.sstable.proofs.Standings.{state_of}
-use Rattle.sstable.proofs.Steps.{answer_is}
-use Rattle.writer.specs.States as states
-use Rattle.writer.specs.States.{State, Answer}
-use Rattle.building.specs.Lines.{first_at, parsed}
-use Rattle.building.specs.Built.{longer, lines_of, Built, whole, bad_line, bad_entry, bad_end, took, finished_by, built_from, built, Holds}
-
--- the first line of a text, and those behind it
-lines_more : (c : ℕ) (cs : List ℕ) → eqb c 10 ≡ false → lines_of cs ≡ take (first_at 10 cs) cs ∷ lines_of (drop (first_at 10 cs + 1) cs)
-    → lines_of (c ∷ cs) ≡ take (first_at 10 cs + 1) (c ∷ cs) ∷ lines_of (drop (first_at 10 cs + 1 + 1) (c ∷ cs))
-lines_more c cs e h =
-    let f = first_at 10 cs in
-    cond-false (eqb c 10) _ _ e ∙ ap (longer c) h
-    ∙ ap (λ (n : ℕ). take n (c ∷ cs) ∷ lines_of (drop (f + 1) cs)) (sym (add-one f))
-    ∙ ap (λ (n : ℕ). take (f + 1) (c ∷ cs) ∷ lines_of (drop n (c ∷ cs))) (sym (add-one (f + 1)))
-
-pub lines_split : (t : List ℕ) → 0 < length t → lines_of t ≡ take (first_at 10 t) t ∷ lines_of (drop (first_at 10 t + 1) t)
-lines_split [] h = absurd (omega arith)
-lines_split (c ∷ cs) h =
-    elim (cases_Bool (eqb c 10)) [
-      | inl e ↦ cond-true (eqb c 10) _ _ e ∙ ap (λ (n : ℕ). take n (c ∷ cs) ∷ lines_of (drop (n + 1) (c ∷ cs))) (sym (cond-true (eqb c 10) 0 (first_at 10 cs + 1) e))
-      | inr e ↦ further cs e (λ k. lines_split cs k) ∙ ap (λ (n : ℕ). take n (c ∷ cs) ∷ lines_of (drop (n + 1) (c ∷ cs))) (sym (cond-false (eqb c 10) 0 (first_at 10 cs + 1) e))
-    ]
-  where
-    further : (ds : List ℕ) → eqb c 10 ≡ false → (0 < length ds → lines_of ds ≡ take (first_at 10 ds) ds ∷ lines_of (drop (first_at 10 ds + 1) ds)) → lines_of (c ∷ ds) ≡ take (first_at 10 ds + 1) (c ∷ ds) ∷ lines_of (drop (first_at 10 ds + 1 + 1) (c ∷ ds))
-    further [] e h = cond-false (eqb c 10) _ _ e
-    further (d ∷ ds) e h = lines_more c (d ∷ ds) e (h (omega arith))
-
--- the lines from a place on
-pub lines_at : (text : List ℕ) (start len : ℕ) → start < length text → len ≡ first_at 10 (drop start text) → lines_of (drop start text) ≡ take len (drop start text) ∷ lines_of (drop (start + (len + 1)) text)
-lines_at text start len h e =
-    let rest = drop start text in
-    lines_split rest (omega (arith, length-drop start text))
-    ∙ ap (λ (n : ℕ). take n rest ∷ lines_of (drop (n + 1) rest)) (sym e)
-    ∙ ap (λ (z : List ℕ). take len rest ∷ lines_of z) (drop-drop (len + 1) start text)
+use Rattle.writer.specs.declared.fault.WriterFault.{WriterFault}
+use Rattle.writer.specs.Standing.{Stands, HoldsOf, Calls}
+use Rattle.writer.specs.States.{State}
+use Rattle.writer.specs.Told.{of_writer}
+use Rattle.writer.proofs.ByEntries.{called_none, out_after}
+use Rattle.writer.proofs.Steps.{none_if}
+use Rattle.building.specs.declared.fault.BuildFault.{BuildFault}
+use Rattle.building.specs.declared.fault.BuildFault.TheVariants as build_fault
+use Rattle.building.specs.declared.line.Line.{Line}
+use Rattle.building.specs.Parts.{entry_of}
+use Rattle.std.specs.Option.{option_map}
+use Rattle.building.specs.Lines.{parsed}
+use Rattle.building.specs.Built.{Built, whole, bad_line, bad_entry, took, finished_by, built_from, built, Holds, Answers}
 
 -- one step of what is built
 abbrev entered : ℕ → ℕ → List (Entry ℕ) → List (List ℕ) → Entry ℕ → Option Fault → Built
 entered room n es ls e o = elim o [ None ↦ built_from room (n + 1) (es ++ e ∷ []) ls | Some f ↦ bad_entry n f ]
 
 abbrev refusal_of : ℕ → List (Entry ℕ) → Entry ℕ → Option Fault
-refusal_of room es e = refusal u64_rule u64_bytes (took es) (insert e.key e.value) room
+refusal_of room es e = refusal u64_meaning (took es) (insert e.key e.value) room
 
 abbrev stepped : ℕ → ℕ → List (Entry ℕ) → List (List ℕ) → Option (Entry ℕ) → Built
 stepped room n es ls o = elim o [ None ↦ bad_line n | Some e ↦ entered room n es ls e (refusal_of room es e) ]
@@ -62,94 +39,107 @@ some_from : (o : Option Fault) (f : Fault) → Err f ≡ answered o → o ≡ So
 some_from None f h = cc
 some_from (Some g) f h = let z : g ≡ f = cc in ap Some z
 
--- A build at a place of its text.
-pub record Stands (old text : List ℕ) (line start : ℕ) (s : State ℕ) (out : List ℕ) : Type 0 where
+-- the entry of a line that was parsed, with its key as the writer is given it
+pub entry_is : (l : Line) (o : Option Line) (key line : List ℕ) → o ≡ Some l → key ≡ vec_items l.key → option_map entry_of o ≡ parsed line
+    → Some (record { key = key; value = l.value }) ≡ parsed line
+entry_is l o key line e k p = ap (λ (z : List ℕ). Some (record { key = z; value = l.value })) k ∙ ap (option_map entry_of) (sym e) ∙ p
+
+-- A call on the writer answers this, its fault is turned, and `?` lets it through or not.
+abbrev pub Turned : (WriterFault → BuildFault) → Result (Unit {0}) WriterFault → Result (Unit {0}) BuildFault → Type 0
+Turned turn r m = MatchResult r (λ x. m ≡ Ok x) (λ f. m ≡ Err (turn f))
+
+-- A build where so many lines are read, and lines are left.
+pub record At (old text : List ℕ) (line : ℕ) (ls : List (List ℕ)) (s : State ℕ) (out : List ℕ) : Type 0 where
   pub entries : List (Entry ℕ)
-  pub kept : Kept u64_rule u64_bytes (length old) (took entries)
-  pub state_is : s ≡ state_of u64_bytes (took entries)
+  pub stands : Stands u64_meaning (took entries) s
   pub out_is : out ≡ overwritten old (output u64_bytes (took entries))
-  pub left : built (length old) text ≡ built_from (length old) (line + 1) entries (lines_of (drop start text))
+  pub left : built (length old) text ≡ built_from (length old) (line + 1) entries ls
 
-pub stands_first : (old text : List ℕ) (s : State ℕ) → s ≡ states.fresh → Stands old text 0 0 s old
-stands_first old text s e = record { entries = []; kept = kept_new u64_rule u64_bytes (length old); state_is = e; out_is = refl; left = refl }
+module _ (old text : List ℕ) (line : ℕ) (ls : List (List ℕ)) (s : State ℕ) (out : List ℕ) (at : At old text line ls s out) (same : length out ≡ length old) where
+  abbrev w : Written ℕ
+  w = took at.entries
 
-module _ {E : Type 0} (tell : E → Fault) (old text : List ℕ) (line start : ℕ) (s : State ℕ) (out : List ℕ) (at : Stands old text line start s out) where
-  -- a call on the writer
-  does : (c : Call ℕ) (r : Result (Unit {0}) E) (s' : State ℕ) (o' : List ℕ) → told tell r ≡ states.answer u64_rule u64_bytes s c (length out)
-      → s' ≡ cond (is_ok r) (states.next u64_bytes s c) s → o' ≡ cond (is_ok r) (written out s.end (states.writes u64_bytes s c)) out
-      → Does u64_rule u64_bytes old (took at.entries) c (told tell r) s' o'
-  does c r s' o' ea es eo =
-      let room = length old in
-      let w = took at.entries in
-      let l : length out ≡ room = ap length at.out_is ∙ over_length old (output u64_bytes w) at.kept.within in
-      let a : told tell r ≡ answered (refusal u64_rule u64_bytes w c room) =
-      ea ∙ ap (λ (z : State ℕ). states.answer u64_rule u64_bytes z c (length out)) at.state_is ∙ ap (states.answer u64_rule u64_bytes (state_of u64_bytes w) c) l ∙ answer_is u64_rule u64_bytes room w.taken w.waits c at.kept in
-      let b = es ∙ ap (λ (z : State ℕ). cond (is_ok r) (states.next u64_bytes z c) z) at.state_is in
-      let d =
-      eo ∙ ap (λ (z : State ℕ). cond (is_ok r) (written out z.end (states.writes u64_bytes z c)) out) at.state_is
-      ∙ ap (λ (z : List ℕ). cond (is_ok r) (written z (length (output u64_bytes w)) (states.writes u64_bytes (state_of u64_bytes w) c)) z) at.out_is in
-      does_case u64_rule u64_bytes tell old w c r s' o' (refusal u64_rule u64_bytes w c room) refl a at.kept b d
+  -- what a call on the writer answers
+  answer_to : (c : Call ℕ) (r : Result (Unit {0}) WriterFault) (s' : State ℕ) (o' : List ℕ) → Calls u64_meaning c s out r s' o' → told of_writer r ≡ answered (refusal u64_meaning w c (length old))
+  answer_to c r s' o' d = (d w at.stands).answers ∙ ap (λ (k : ℕ). answered (refusal u64_meaning w c k)) same
+
+  -- what an accepted call leaves
+  record Left (v : Written ℕ) (s' : State ℕ) (o' : List ℕ) : Type 0 where
+    pub stands : Stands u64_meaning v s'
+    pub out_is : o' ≡ overwritten old (output u64_bytes v)
+
+  left_by : (c : Call ℕ) (r : Result (Unit {0}) WriterFault) (s' : State ℕ) (o' : List ℕ) → Calls u64_meaning c s out r s' o' → refusal u64_meaning w c (length old) ≡ None → Left (accepted w c) s' o'
+  left_by c r s' o' d n =
+      let p : called u64_meaning (length out) w c ≡ accepted w c = ap (λ (k : ℕ). called u64_meaning k w c) same ∙ called_none u64_meaning (length old) w c n in
+      record {
+        stands = subst (λ (z : Written ℕ). Stands u64_meaning z s') p (d w at.stands).stands;
+        out_is = out_after u64_meaning old w c s out r s' o' at.stands at.out_is (d w at.stands) ∙ ap (λ (z : Written ℕ). overwritten old (output u64_bytes z)) p;
+      }
 
   -- the line that is next
-  module _ (inside : start < length text) (len : ℕ) (len_is : len ≡ first_at 10 (drop start text)) where
-    next_line : built (length old) text ≡ stepped (length old) (line + 1) at.entries (lines_of (drop (start + (len + 1)) text)) (parsed (take len (drop start text)))
-    next_line = at.left ∙ ap (built_from (length old) (line + 1) at.entries) (lines_at text start len inside len_is)
+  module _ (l : List ℕ) (more : List (List ℕ)) (next : ls ≡ l ∷ more) where
+    next_line : (o : Option (Entry ℕ)) → o ≡ parsed l → built (length old) text ≡ stepped (length old) (line + 1) at.entries more o
+    next_line o h = at.left ∙ ap (built_from (length old) (line + 1) at.entries) next ∙ ap (stepped (length old) (line + 1) at.entries more) (sym h)
 
-    pub bad_line_lem : None ≡ parsed (take len (drop start text)) → built (length old) text ≡ bad_line (line + 1)
-    bad_line_lem h = next_line ∙ ap (stepped (length old) (line + 1) at.entries (lines_of (drop (start + (len + 1)) text))) (sym h)
-
-    next_entry : (e : Entry ℕ) → Some e ≡ parsed (take len (drop start text))
-        → built (length old) text ≡ entered (length old) (line + 1) at.entries (lines_of (drop (start + (len + 1)) text)) e (refusal_of (length old) at.entries e)
-    next_entry e h = next_line ∙ ap (stepped (length old) (line + 1) at.entries (lines_of (drop (start + (len + 1)) text))) (sym h)
-
-    module _ (e : Entry ℕ) (is : Some e ≡ parsed (take len (drop start text))) (s' : State ℕ) (o' : List ℕ) where
+    module _ (e : Entry ℕ) (is : Some e ≡ parsed l) (n : ℕ) (number : n ≡ line) (s' : State ℕ) (o' : List ℕ) where
       abbrev call : Call ℕ
       call = insert e.key e.value
 
-      pub bad_entry_lem : (f : E) → Err (tell f) ≡ states.answer u64_rule u64_bytes s call (length out) → s' ≡ s → o' ≡ out → built (length old) text ≡ bad_entry (line + 1) (tell f)
-      bad_entry_lem f ea es eo =
-          let d = does call (Err f) s' o' ea es eo in
-          next_entry e is ∙ ap (entered (length old) (line + 1) at.entries (lines_of (drop (start + (len + 1)) text)) e) (some_from (refusal_of (length old) at.entries e) (tell f) d.answer)
-
-      pub stands_more : Ok tt ≡ states.answer u64_rule u64_bytes s call (length out) → s' ≡ states.next u64_bytes s call → o' ≡ written out s.end (states.writes u64_bytes s call)
-          → Stands old text (line + 1) (start + (len + 1)) s' o'
-      stands_more ea es eo =
-          let room = length old in
-          let w = took at.entries in
-          let d = does call (Ok tt) s' o' ea es eo in
-          let n = none_from (refusal_of room at.entries e) d.answer in
-          let c : called u64_rule u64_bytes room w call ≡ took (at.entries ++ e ∷ []) = called_none u64_rule u64_bytes room w call n in
+      at_more : Calls u64_meaning call s out (Ok tt) s' o' → At old text (line + 1) more s' o'
+      at_more d =
+          let n = none_from (refusal_of (length old) at.entries e) (answer_to call (Ok tt) s' o' d) in
+          let l = left_by call (Ok tt) s' o' d n in
           record {
             entries = at.entries ++ e ∷ [];
-            kept = subst (Kept u64_rule u64_bytes room) c (kept_case u64_rule u64_bytes room w call None n at.kept);
-            state_is = d.state ∙ ap (state_of u64_bytes) c;
-            out_is = d.out_is ∙ ap (λ (z : Written ℕ). overwritten old (output u64_bytes z)) c;
-            left = next_entry e is ∙ ap (entered room (line + 1) at.entries (lines_of (drop (start + (len + 1)) text)) e) n;
+            stands = l.stands;
+            out_is = l.out_is;
+            left = next_line (Some e) is ∙ ap (entered (length old) (line + 1) at.entries more e) n;
           }
 
+      -- the entry was refused
+      pub entry_refused : (r : Result (Unit {0}) WriterFault) (m : Result (Unit {0}) BuildFault) (b : BuildFault) (a : Result ℕ BuildFault)
+          → Calls u64_meaning call s out r s' o' → Turned (build_fault.Entry (n + 1)) r m → m ≡ Err b → a ≡ Err b → Answers (built (length old) text) old a o'
+      entry_refused (Ok x) m b a d t g e = cc
+      entry_refused (Err f) m b a d t g answer =
+          let is_entry : a ≡ Err (build_fault.Entry (n + 1) f) = cc in
+          let refused = some_from (refusal_of (length old) at.entries e) (of_writer f) (answer_to call (Err f) s' o' d) in
+          let bad : built (length old) text ≡ bad_entry (n + 1) (of_writer f) =
+          next_line (Some e) is ∙ ap (entered (length old) (line + 1) at.entries more e) refused ∙ ap (λ (k : ℕ). bad_entry (k + 1) (of_writer f)) (sym number) in
+          subst (λ (z : Result ℕ BuildFault). Answers (built (length old) text) old z o') (sym is_entry) bad
+
+      -- the entry was taken
+      pub entry_taken : (r : Result (Unit {0}) WriterFault) (m : Result (Unit {0}) BuildFault) → Calls u64_meaning call s out r s' o' → Turned (build_fault.Entry (n + 1)) r m → m ≡ Ok tt → At old text (line + 1) more s' o'
+      entry_taken (Ok x) m d t g = at_more d
+      entry_taken (Err f) m d t g = cc
+
   -- the finish
-  module _ (outside : length text ≤ start) (s' : State ℕ) (o' : List ℕ) where
-    no_line : built (length old) text ≡ finished_by at.entries (refusal u64_rule u64_bytes (took at.entries) finish (length old))
-    no_line = at.left ∙ ap (λ (z : List ℕ). built_from (length old) (line + 1) at.entries (lines_of z)) (drop_all start text outside)
+  module _ (none : ls ≡ []) (s' : State ℕ) (o' : List ℕ) where
+    no_line : built (length old) text ≡ finished_by at.entries (refusal u64_meaning w finish (length old))
+    no_line = at.left ∙ ap (built_from (length old) (line + 1) at.entries) none
 
-    pub bad_end_lem : (f : E) → Err (tell f) ≡ states.answer u64_rule u64_bytes s finish (length out) → s' ≡ s → o' ≡ out → built (length old) text ≡ bad_end (tell f)
-    bad_end_lem f ea es eo =
-        let d = does finish (Err f) s' o' ea es eo in
-        no_line ∙ ap (finished_by at.entries) (some_from (refusal u64_rule u64_bytes (took at.entries) finish (length old)) (tell f) d.answer)
-
-    pub stands_whole : Ok tt ≡ states.answer u64_rule u64_bytes s finish (length out) → s' ≡ states.next u64_bytes s finish → o' ≡ written out s.end (states.writes u64_bytes s finish)
-        → (n : ℕ) → n ≡ s'.end → (es : List (Entry ℕ)) × ((built (length old) text ≡ whole es) × Holds es n old o')
-    stands_whole ea es eo n m =
-        let room = length old in
-        let w = took at.entries in
-        let d = does finish (Ok tt) s' o' ea es eo in
-        let x = none_from (refusal u64_rule u64_bytes w finish room) d.answer in
-        let c : called u64_rule u64_bytes room w finish ≡ accepted w finish = called_none u64_rule u64_bytes room w finish x in
-        let k : Kept u64_rule u64_bytes room (accepted w finish) = subst (Kept u64_rule u64_bytes room) c (kept_case u64_rule u64_bytes room w finish None x at.kept) in
-        let l : n ≡ length (sstable u64_bytes at.entries) = m ∙ ap (λ (z : State ℕ). z.end) (d.state ∙ ap (state_of u64_bytes) c) in (
+    at_whole : Calls u64_meaning finish s out (Ok tt) s' o' → (n : ℕ) → HoldsOf u64_meaning s' (λ v. n ≡ length (output u64_bytes v))
+        → (es : List (Entry ℕ)) × ((built (length old) text ≡ whole es) × Holds es n old o')
+    at_whole d n m =
+        let x = none_from (refusal u64_meaning w finish (length old)) (answer_to finish (Ok tt) s' o' d) in
+        let v = left_by finish (Ok tt) s' o' d x in
+        let l : n ≡ length (sstable u64_bytes at.entries) = m (accepted w finish) v.stands in
+        let fits : length (sstable u64_bytes at.entries) ≤ length old =
+        ltb-false (length old) (length (sstable u64_bytes at.entries)) (none_if (ltb (length old) (length (sstable u64_bytes at.entries))) (fault call_layer 24 (length at.entries)) None x).0 in (
           at.entries,
-          (
-            no_line ∙ ap (finished_by at.entries) x,
-            record { len = l; within = omega (arith, l, k.within); bytes = d.out_is ∙ ap (λ (z : Written ℕ). overwritten old (output u64_bytes z)) c },
-          ),
+          (no_line ∙ ap (finished_by at.entries) x, record { len = l; within = omega (arith, l, fits); bytes = v.out_is }),
         )
+
+    -- it was refused
+    pub end_refused : (r : Result (Unit {0}) WriterFault) (m : Result (Unit {0}) BuildFault) (b : BuildFault) (a : Result ℕ BuildFault)
+        → Calls u64_meaning finish s out r s' o' → Turned (λ f. build_fault.End f) r m → m ≡ Err b → a ≡ Err b → Answers (built (length old) text) old a o'
+    end_refused (Ok x) m b a d t g e = cc
+    end_refused (Err f) m b a d t g answer =
+        let is_end : a ≡ Err (build_fault.End f) = cc in
+        let refused = some_from (refusal u64_meaning w finish (length old)) (of_writer f) (answer_to finish (Err f) s' o' d) in
+        subst (λ (z : Result ℕ BuildFault). Answers (built (length old) text) old z o') (sym is_end) (no_line ∙ ap (finished_by at.entries) refused)
+
+    -- the sstable is whole
+    pub whole_by : (r : Result (Unit {0}) WriterFault) (m : Result (Unit {0}) BuildFault) → Calls u64_meaning finish s out r s' o' → Turned (λ f. build_fault.End f) r m → m ≡ Ok tt
+        → (n : ℕ) → HoldsOf u64_meaning s' (λ v. n ≡ length (output u64_bytes v)) → Answers (built (length old) text) old (Ok n) o'
+    whole_by (Ok x) m d t g n v = at_whole d n v
+    whole_by (Err f) m d t g n v = cc

@@ -1,102 +1,151 @@
--- What a loop over digits learns from each.
-use Rattle.std.proofs.Common.{◌≡◌, ℕ, ◌+◌, ◌<◌, ◌≤◌, cond, eqb, ltb, List, [], ◌∷◌, ◌++◌, length, get_or, take, drop, Some, None, Option, sym, refl, ap, ◌∙◌, append_assoc, arith}
-use Rattle.std.proofs.lemmas.List.{append-nil, drop_more, drop_all, at_drop_more, at_drop_all}
-use Rattle.std.proofs.lemmas.Bool.{cond-true, cond-false, eq-eqb, ne_eqb, lt-ltb}
-use Rattle.format.specs.Tables.{Entry}
-use Rattle.building.specs.Lines.{first_at, hex_byte, behind_byte, key_of, with_digit, value_from, value_of, entry_in, parsed}
+-- The library's reading of digits is the reading of a line's parts.
+use Rattle.std.proofs.Common.{◌≡◌, ℕ, ◌+◌, ◌-◌, ◌*◌, ◌%◌, ◌^◌, ◌<◌, ◌≤◌, true, false, rules, eqb, List, [], ◌∷◌, length, Some, None, Ok, Err, Option, Result, ◌≢◌, get_or, subst, sym, refl, ap, ◌∙◌, inl, inr, arith}
+use Rattle.std.proofs.lemmas.Bool.{cases_eq, and_parts}
+use Rattle.std.proofs.lemmas.Bool.Decides.{nat_tests}
+use Rattle.std.proofs.lemmas.Str.Parse.{IsNumeralModel, numerals_by_fold, tells_all_ascii_digits, parse_plain}
+use Rattle.std.proofs.lemmas.Str.{IsUtf8-from_ascii}
+use Rattle.std.proofs.lemmas.Fmt.{IsAscii-from_digits}
+use Rattle.std.specs.Char.{is_ascii_digit}
+use Rattle.std.specs.List.{starts_with}
+use Rattle.std.specs.Result.{result_ok, OkIff}
+use Rattle.std.specs.Str.{all_ascii_digits, IsUtf8}
+use Rattle.std.specs.Str.Parse.{ParsesUnsigned}
+use Rattle.hex.specs.Hex.{decode_of, decode_pairs, digit_or_error, hex_digit_value, pair_value, value_at, ◌>>=◌}
+use Rattle.hex.proofs.HexLemmas.{decode_of-even, decode_of-odd}
+use Rattle.hex.specs.declared.error.FromHexError.{FromHexError}
+use Rattle.building.specs.Lines.{hex_value, byte_of, hex_byte, behind_byte, key_of, with_digit, value_from, value_of, entry_in}
 
--- a byte that stands here, further on, or nowhere
-pub first_here : (b : ℕ) (xs : List ℕ) (i : ℕ) → i < length xs → get_or xs i 0 ≡ b → first_at b (drop i xs) ≡ 0
-first_here b xs i h e = at_drop_more (first_at b) xs i 0 h ∙ cond-true (eqb (get_or xs i 0) b) 0 (first_at b (drop (i + 1) xs) + 1) (eq-eqb _ _ e)
+-- a digit
+digit_is : (c : ℕ) → hex_digit_value c ≡ hex_value c
+digit_is c = grind (arith, nat_tests)
 
-pub first_further : (b : ℕ) (xs : List ℕ) (i : ℕ) → i < length xs → (get_or xs i 0 ≡ b → ⊥) → first_at b (drop i xs) ≡ first_at b (drop (i + 1) xs) + 1
-first_further b xs i h e = at_drop_more (first_at b) xs i 0 h ∙ cond-false (eqb (get_or xs i 0) b) 0 (first_at b (drop (i + 1) xs) + 1) (ne_eqb _ _ e)
+digit_read : (c i : ℕ) (o : Option ℕ) → result_ok (digit_or_error c i o) ≡ o
+digit_read c i (Some v) = refl
+digit_read c i None = refl
 
-pub first_none : (b : ℕ) (xs : List ℕ) (i : ℕ) → length xs ≤ i → first_at b (drop i xs) ≡ 0
-first_none b xs i h = at_drop_all (first_at b) xs i h
+-- a byte
+bytes_bind : (r s : Result ℕ FromHexError) → result_ok (r >>= λ h. s >>= λ l. Ok (h * 16 + l)) ≡ byte_of (result_ok r) (result_ok s)
+bytes_bind (Ok h) (Ok l) = refl
+bytes_bind (Ok h) (Err e) = refl
+bytes_bind (Err e) s = refl
 
--- the bytes of a key behind others
-abbrev pub onto : List ℕ → Option (List ℕ) → Option (List ℕ)
-onto front (Some key) = Some (front ++ key)
-onto front None = None
+pair_is : (c d i : ℕ) → result_ok (pair_value c d i) ≡ hex_byte c d
+pair_is c d i =
+    let h = digit_read c i (hex_digit_value c) ∙ digit_is c in
+    let l = digit_read d (i + 1) (hex_digit_value d) ∙ digit_is d in
+    bytes_bind (value_at c i) (value_at d (i + 1)) ∙ ap (λ (o : Option ℕ). byte_of o (result_ok (value_at d (i + 1)))) h ∙ ap (byte_of (hex_value c)) l
 
-pub onto_nothing : (k : Option (List ℕ)) → k ≡ onto [] k
-onto_nothing (Some key) = refl
-onto_nothing None = refl
+-- pairs of digits
+key_bind : (r : Result ℕ FromHexError) (s : Result (List ℕ) FromHexError) → result_ok (r >>= λ b. s >>= λ bs. Ok (b ∷ bs)) ≡ behind_byte (result_ok r) (result_ok s)
+key_bind (Ok b) (Ok bs) = refl
+key_bind (Ok b) (Err e) = refl
+key_bind (Err e) s = refl
 
-pub onto_byte : (front : List ℕ) (b : ℕ) (k : Option (List ℕ)) → onto front (behind_byte (Some b) k) ≡ onto (front ++ b ∷ []) k
-onto_byte front b (Some key) = ap Some (sym (append_assoc front (b ∷ []) key))
-onto_byte front b None = refl
+pairs_are : (i : ℕ) (ds : List ℕ) → result_ok (decode_pairs i ds) ≡ key_of ds
+unfolding decode_pairs
+pairs_are i [] = refl
+pairs_are i (c ∷ []) = refl
+pairs_are i (c ∷ d ∷ ds) =
+    key_bind (pair_value c d i) (decode_pairs (i + 2) ds)
+    ∙ ap (λ (o : Option ℕ). behind_byte o (result_ok (decode_pairs (i + 2) ds))) (pair_is c d i)
+    ∙ ap (behind_byte (hex_byte c d)) (pairs_are (i + 2) ds)
 
-pub key_two : (xs : List ℕ) (i : ℕ) → i + 1 < length xs → key_of (drop i xs) ≡ behind_byte (hex_byte (get_or xs i 0) (get_or xs (i + 1) 0)) (key_of (drop (i + 2) xs))
-key_two xs i h =
-    let n : i + 1 + 1 ≡ i + 2 = omega arith in
-    at_drop_more key_of xs i 0 (omega arith)
-    ∙ ap (λ (z : List ℕ). key_of (get_or xs i 0 ∷ z)) (drop_more xs (i + 1) 0 h)
-    ∙ ap (λ (z : ℕ). behind_byte (hex_byte (get_or xs i 0) (get_or xs (i + 1) 0)) (key_of (drop z xs))) n
+behind_none : (o : Option ℕ) → behind_byte o None ≡ None
+behind_none (Some b) = refl
+behind_none None = refl
 
--- a key with one byte more
-pub key_more : (xs front after : List ℕ) (i b : ℕ) (k : Option (List ℕ)) → i + 1 < length xs → k ≡ onto front (key_of (drop i xs))
-    → Some b ≡ hex_byte (get_or xs i 0) (get_or xs (i + 1) 0) → after ≡ front ++ b ∷ [] → k ≡ onto after (key_of (drop (i + 2) xs))
-key_more xs front after i b k h e f g =
-    e ∙ ap (onto front) (key_two xs i h)
-    ∙ ap (λ (z : Option ℕ). onto front (behind_byte z (key_of (drop (i + 2) xs)))) (sym f)
-    ∙ onto_byte front b (key_of (drop (i + 2) xs))
-    ∙ ap (λ (z : List ℕ). onto z (key_of (drop (i + 2) xs))) (sym g)
+odd_is_none : (ds : List ℕ) → length ds % 2 ≡ 1 → key_of ds ≡ None
+odd_is_none [] h = absurd (omega arith)
+odd_is_none (c ∷ []) h = refl
+odd_is_none (c ∷ d ∷ ds) h = ap (behind_byte (hex_byte c d)) (odd_is_none ds (omega arith)) ∙ behind_none (hex_byte c d)
 
--- one digit alone
-pub key_odd : (xs front : List ℕ) (i : ℕ) (k : Option (List ℕ)) → i + 1 ≡ length xs → k ≡ onto front (key_of (drop i xs)) → None ≡ k
-key_odd xs front i k h e =
-    sym (
-    e ∙ ap (onto front) (at_drop_more key_of xs i 0 (omega arith))
-    ∙ ap (λ (z : List ℕ). onto front (key_of (get_or xs i 0 ∷ z))) (drop_all (i + 1) xs (omega arith))
-    )
+pub key_is : (ds : List ℕ) → result_ok (decode_of ds) ≡ key_of ds
+key_is ds =
+    elim (cases_eq (length ds % 2) 1) [
+      | inl odd ↦ ap result_ok (decode_of-odd ds odd) ∙ sym (odd_is_none ds odd)
+      | inr even ↦ ap result_ok (decode_of-even ds (omega arith)) ∙ pairs_are 0 ds
+    ]
 
--- two characters that are no byte
-pub key_bad : (xs front : List ℕ) (i : ℕ) (k : Option (List ℕ)) → i + 1 < length xs → k ≡ onto front (key_of (drop i xs))
-    → None ≡ hex_byte (get_or xs i 0) (get_or xs (i + 1) 0) → None ≡ k
-key_bad xs front i k h e f =
-    sym (
-    e ∙ ap (onto front) (key_two xs i h)
-    ∙ ap (λ (z : Option ℕ). onto front (behind_byte z (key_of (drop (i + 2) xs)))) (sym f)
-    )
+-- a number in decimal, with no bound
+abbrev read_on : ℕ → List ℕ → ℕ
+read_on n [] = n
+read_on n (c ∷ cs) = read_on (n * 10 + (c - 48)) cs
 
--- no digit is left
-pub key_whole : (xs front : List ℕ) (i : ℕ) (k : Option (List ℕ)) → length xs ≤ i → k ≡ onto front (key_of (drop i xs)) → Some front ≡ k
-key_whole xs front i k h e = sym (e ∙ ap (onto front) (at_drop_all key_of xs i h) ∙ ap Some (append-nil front))
+numerals : IsNumeralModel (λ ds. all_ascii_digits ds ≡ true) (read_on 0)
+numerals = numerals_by_fold _ tells_all_ascii_digits read_on (search rules)
 
--- a value with one digit more
+read_on_grows : (n : ℕ) (cs : List ℕ) → n ≤ read_on n cs
+read_on_grows n [] = omega arith
+read_on_grows n (c ∷ cs) = let e = read_on_grows (n * 10 + (c - 48)) cs in omega arith
+
+digit_some : (n c : ℕ) → is_ascii_digit c ≡ true → n * 10 + (c - 48) < 2 ^ 64 → with_digit n c ≡ Some (n * 10 + (c - 48))
+digit_some n c d h = grind (arith, nat_tests)
+
+record Digit (n c m : ℕ) : Type 0 where
+  is : is_ascii_digit c ≡ true
+  gives : m ≡ n * 10 + (c - 48)
+  small : m < 2 ^ 64
+
+digit_of_some : (n c m : ℕ) → with_digit n c ≡ Some m → Digit n c m
+digit_of_some n c m h = record { is = grind (arith, nat_tests); gives = grind (arith, nat_tests); small = grind (arith, nat_tests) }
+
 abbrev then : Option ℕ → List ℕ → Option ℕ
 then o cs = elim o [ None ↦ None | Some m ↦ value_from m cs ]
 
-pub value_more : (xs : List ℕ) (i n m : ℕ) (v : Option ℕ) → i < length xs → v ≡ value_from n (drop i xs) → Some m ≡ with_digit n (get_or xs i 0) → v ≡ value_from m (drop (i + 1) xs)
-value_more xs i n m v h e f = e ∙ at_drop_more (value_from n) xs i 0 h ∙ ap (λ (z : Option ℕ). then z (drop (i + 1) xs)) (sym f)
+value_some : (n : ℕ) (cs : List ℕ) → all_ascii_digits cs ≡ true → read_on n cs < 2 ^ 64 → value_from n cs ≡ Some (read_on n cs)
+value_some n [] d h = refl
+value_some n (c ∷ cs) d h =
+    let m = n * 10 + (c - 48) in
+    let parts = and_parts (is_ascii_digit c) (all_ascii_digits cs) d in
+    let grows = read_on_grows m cs in
+    ap (λ (o : Option ℕ). then o cs) (digit_some n c parts.0 (omega arith)) ∙ value_some m cs parts.1 h
 
-pub value_bad : (xs : List ℕ) (i n : ℕ) (v : Option ℕ) → i < length xs → v ≡ value_from n (drop i xs) → None ≡ with_digit n (get_or xs i 0) → None ≡ v
-value_bad xs i n v h e f = sym (e ∙ at_drop_more (value_from n) xs i 0 h ∙ ap (λ (z : Option ℕ). then z (drop (i + 1) xs)) (sym f))
+-- a number that was read
+record Numeral (n : ℕ) (cs : List ℕ) : Type 0 where
+  digits : all_ascii_digits cs ≡ true
+  small : read_on n cs < 2 ^ 64
 
-pub value_whole : (xs : List ℕ) (i n : ℕ) (v : Option ℕ) → length xs ≤ i → v ≡ value_from n (drop i xs) → Some n ≡ v
-value_whole xs i n v h e = sym (e ∙ at_drop_all (value_from n) xs i h)
+-- the digits behind a first one
+behind_digit : (n c : ℕ) (cs : List ℕ) (v : ℕ) → ((m : ℕ) → m < 2 ^ 64 → value_from m cs ≡ Some v → Numeral m cs) → (o : Option ℕ) → with_digit n c ≡ o → then o cs ≡ Some v → Numeral n (c ∷ cs)
+behind_digit n c cs v rest None e k = cc
+behind_digit n c cs v rest (Some m) e k =
+    let d = digit_of_some n c m e in
+    let more : Numeral (n * 10 + (c - 48)) cs = subst (λ (z : ℕ). Numeral z cs) d.gives (rest m d.small k) in
+    record { digits = rw d.is more.digits; small = more.small }
 
--- where there is a digit, from the first one on
-pub value_from_lem : (xs : List ℕ) → (length xs ≡ 0 → ⊥) → value_of xs ≡ value_from 0 xs
-value_from_lem [] h = absurd (h refl)
-value_from_lem (c ∷ cs) h = refl
+numeral_of_some : (n : ℕ) (cs : List ℕ) (v : ℕ) → n < 2 ^ 64 → value_from n cs ≡ Some v → Numeral n cs
+numeral_of_some n [] v small h = record { digits = refl; small = small }
+numeral_of_some n (c ∷ cs) v small h = behind_digit n c cs v (λ m s k. numeral_of_some m cs v s k) (with_digit n c) refl h
 
--- a line by its parts
-parts_are : (line : List ℕ) (tab : ℕ) → tab ≡ first_at 9 line → tab < length line → parsed line ≡ entry_in (key_of (take tab line)) (value_of (drop (tab + 1) line))
-parts_are line tab e h =
-    let at : ℕ → Option (Entry ℕ) = λ t. cond (ltb t (length line)) (entry_in (key_of (take t line)) (value_of (drop (t + 1) line))) None in
-    ap at (sym e) ∙ cond-true (ltb tab (length line)) _ _ (lt-ltb _ _ h)
+-- what `parse` answers for a text with no sign in front
+pub value_is : {E : Type 0} (bs : List ℕ) (r : Result ℕ E) → ParsesUnsigned 64 10 bs r → get_or bs 0 0 ≢ 43 → result_ok r ≡ value_of bs
+value_is bs r h p = by_parse bs r (parse_plain numerals 64 bs r h p)
+  where
+    by_none : (o : Option ℕ) (cs : List ℕ) → value_from 0 cs ≡ o → (Numeral 0 cs → ⊥) → None ≡ o
+    by_none None cs e bad = refl
+    by_none (Some v) cs e bad = absurd (bad (numeral_of_some 0 cs v (omega arith) e))
 
-pub parsed_is : (line : List ℕ) (tab : ℕ) (key : List ℕ) (value : ℕ) → tab ≡ first_at 9 line → tab < length line → Some key ≡ key_of (take tab line) → Some value ≡ value_of (drop (tab + 1) line)
-    → Some (record { key = key; value = value }) ≡ parsed line
-parsed_is line tab key value e h k v =
-    sym (parts_are line tab e h ∙ ap (λ (z : Option (List ℕ)). entry_in z (value_of (drop (tab + 1) line))) (sym k) ∙ ap (entry_in (Some key)) (sym v))
+    by_parse : {E : Type 0} (bs : List ℕ) (r : Result ℕ E) → OkIff r ((all_ascii_digits bs ≡ true) × (0 < length bs) × (read_on 0 bs < 2 ^ 64)) (read_on 0 bs) → result_ok r ≡ value_of bs
+    by_parse [] (Ok x) h = absurd (omega (arith, h.0.1))
+    by_parse [] (Err e) h = refl
+    by_parse (c ∷ cs) (Ok x) h = ap Some h.1 ∙ sym (value_some 0 (c ∷ cs) h.0.0 h.0.2)
+    by_parse (c ∷ cs) (Err e) h = by_none (value_from 0 (c ∷ cs)) (c ∷ cs) refl (λ n. h (n.digits, omega arith, n.small))
 
-none_without : (k : Option (List ℕ)) → entry_in k None ≡ None
+-- a text that is no UTF-8 has others than digits
+pub no_text : (bs : List ℕ) → ¬ (IsUtf8 bs) → None ≡ value_of bs
+no_text [] h = refl
+no_text (c ∷ cs) h = by_none (value_from 0 (c ∷ cs)) refl
+  where
+    by_none : (o : Option ℕ) → value_from 0 (c ∷ cs) ≡ o → None ≡ o
+    by_none None e = refl
+    by_none (Some v) e = absurd (h (IsUtf8-from_ascii (c ∷ cs) (IsAscii-from_digits (c ∷ cs) (numerals.to (c ∷ cs) (numeral_of_some 0 (c ∷ cs) v (omega arith) e).digits))))
+
+-- a text with no sign in front
+pub with_no_sign : (bs : List ℕ) → starts_with eqb bs (43 ∷ []) ≡ false → get_or bs 0 0 ≢ 43
+with_no_sign [] h e = absurd (omega arith)
+with_no_sign (c ∷ cs) h e = cc
+
+-- a key with no value
+pub none_without : (k : Option (List ℕ)) → entry_in k None ≡ None
 none_without (Some key) = refl
 none_without None = refl
-
-pub no_value : (line : List ℕ) (tab : ℕ) → tab ≡ first_at 9 line → tab < length line → None ≡ value_of (drop (tab + 1) line) → None ≡ parsed line
-no_value line tab e h v = sym (parts_are line tab e h ∙ ap (entry_in (key_of (take tab line))) (sym v) ∙ none_without (key_of (take tab line)))

@@ -1,2 +1,4 @@
+pub mod Halves
 pub mod Digits
 pub mod Builds
+pub mod Wholes

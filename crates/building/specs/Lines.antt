@@ -52,8 +52,23 @@ entry_in (Some key) (Some value) = Some (record { key = key; value = value })
 entry_in (Some key) None = None
 entry_in None value = None
 
+-- what stands before and behind the first such byte, if there is one
+abbrev pub halves : ℕ → List ℕ → Option (List ℕ × List ℕ)
+halves b xs = cond (nat_lt (first_at b xs) (length xs)) (Some (take (first_at b xs) xs, drop (first_at b xs + 1) xs)) None
+
+abbrev pub entry_of_halves : Option (List ℕ × List ℕ) → Option (Entry ℕ)
+entry_of_halves (Some h) = entry_in (key_of h.0) (value_of h.1)
+entry_of_halves None = None
+
 -- what a line has before and behind its first tab
 abbrev pub parsed : List ℕ → Option (Entry ℕ)
-parsed line =
-    let tab = first_at 9 line in
-    cond (nat_lt tab (length line)) (entry_in (key_of (take tab line)) (value_of (drop (tab + 1) line))) None
+parsed line = entry_of_halves (halves 9 line)
+
+abbrev pub longer : ℕ → List (List ℕ) → List (List ℕ)
+longer c [] = (c ∷ []) ∷ []
+longer c (l ∷ ls) = (c ∷ l) ∷ ls
+
+-- each line ends before a newline, and the last one there or at the end of the text
+abbrev pub lines_of : List ℕ → List (List ℕ)
+lines_of [] = []
+lines_of (c ∷ cs) = cond (c == 10) ([] ∷ lines_of cs) (longer c (lines_of cs))

@@ -6,6 +6,8 @@ mod line;
 #[cfg(test)]
 mod tests;
 mod text;
+mod whole;
 
 pub use line::{Line, parse_line};
 pub use text::build;
+pub use whole::build_vec;

@@ -1,106 +1,58 @@
 // A line: a key in hexadecimal, a tab, and a value in decimal.
-ghost use Rattle.std.specs.Prelude.{◌≡◌, ℕ, ◌≤◌, length, IfOk, vec_items};
+ghost use Rattle.std.specs.Prelude.{◌≡◌, IfOk, vec_items};
 ghost use Rattle.std.specs.Option.{option_map};
-ghost use Rattle.building.specs.Lines.{first_at, hex_value, hex_byte, key_of, with_digit, value_of, parsed};
-ghost use Rattle.building.specs.Parts.{entry_of};
+ghost use Rattle.building.specs.Lines.{halves, key_of, value_of, parsed};
+ghost use Rattle.building.specs.Parts.{entry_of, parts_of};
 
+use hex::FromHexError;
 use std::alloc::{AllocError, Global};
 
-#[derive(Drop)]
+#[derive(PartialEq, Eq, Debug, Drop)]
 pub struct Line {
     pub key: Vec<u8>,
     pub value: u64,
 }
 
-// Where a byte stands first, or the length where it does not stand.
-pub(crate) fn find(bytes: &[u8], wanted: u8) -> usize
-    ensures value { result ≡ first_at wanted bytes.now }
-    ensures bound { result ≤ length bytes.now }
+// What stands before and behind the first such byte, if there is one.
+pub(crate) fn split_once(bytes: &[u8], wanted: u8) -> Option<(&[u8], &[u8])>
+    ensures { option_map parts_of result ≡ halves wanted bytes.now }
 {
-    for (i, b) in bytes.iter().enumerate() {
-        if *b == wanted {
-            return i;
-        }
-    }
-    bytes.len()
-}
-
-// The value of a digit of either case.
-fn hex_value(digit: u8) -> Option<u8>
-    ensures { result ≡ hex_value digit }
-{
-    match digit {
-        b'0'..=b'9' => Some(digit - b'0'),
-        b'a'..=b'f' => Some(digit - b'a' + 10),
-        b'A'..=b'F' => Some(digit - b'A' + 10),
-        _ => None,
-    }
-}
-
-// The byte of two digits.
-fn hex_byte(high: u8, low: u8) -> Option<u8>
-    ensures { result ≡ hex_byte high low }
-{
-    Some(hex_value(high)? * 16 + hex_value(low)?)
+    let at = bytes.iter().position(|b| *b == wanted)?;
+    Some((&bytes[..at], &bytes[at + 1..]))
 }
 
 fn parse_key(heap: Global, digits: &[u8]) -> Result<Option<Vec<u8>>, AllocError>
     ensures { IfOk result (λ o. option_map vec_items o ≡ key_of digits.now) }
 {
-    let mut key = Vec::new(heap);
-    let mut at = 0;
-    while at < digits.len() {
-        if at + 1 == digits.len() {
-            return Ok(None);
-        }
-        let Some(byte) = hex_byte(digits[at], digits[at + 1]) else {
-            return Ok(None);
-        };
-        key.push(byte)?;
-        at += 2;
+    match hex::decode(heap, digits) {
+        Ok(key) => Ok(Some(key)),
+        Err(fault) => match fault {
+            FromHexError::OutOfMemory => Err(AllocError),
+            _ => Ok(None),
+        },
     }
-    Ok(Some(key))
-}
-
-// A number with one digit more, if it is below 2^64.
-fn with_digit(n: u64, digit: u8) -> Option<u64>
-    ensures { result ≡ with_digit n digit }
-{
-    if digit < b'0' || digit > b'9' {
-        return None;
-    }
-    n.checked_mul(10)?.checked_add(u64::from(digit - b'0'))
 }
 
 fn parse_value(digits: &[u8]) -> Option<u64>
     ensures { result ≡ value_of digits.now }
 {
-    if digits.is_empty() {
+    // a value has no sign, and `parse` takes one
+    if digits.starts_with(b"+") {
         return None;
     }
-    let mut value = 0;
-    for digit in digits {
-        let Some(longer) = with_digit(value, *digit) else {
-            return None;
-        };
-        value = longer;
-    }
-    Some(value)
+    str::from_utf8(digits).ok()?.parse().ok()
 }
 
 // The key and the value of a line, or nothing where it has others than these; or want of memory.
 pub fn parse_line(heap: Global, line: &[u8]) -> Result<Option<Line>, AllocError>
     ensures { IfOk result (λ o. option_map entry_of o ≡ parsed line.now) }
 {
-    let tab = find(line, b'\t');
-    if tab == line.len() {
-        return Ok(None);
-    }
-    let Some(value) = parse_value(&line[tab + 1..]) else {
+    let Some((key, value)) = split_once(line, b'\t') else {
         return Ok(None);
     };
-    let Some(key) = parse_key(heap, &line[..tab])? else {
+    let Some(value) = parse_value(value) else {
         return Ok(None);
     };
-    Ok(Some(Line { key, value }))
+    let key = parse_key(heap, key)?;
+    Ok(key.map(|key| Line { key, value }))
 }

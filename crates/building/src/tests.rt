@@ -1,6 +1,7 @@
 // Lines that parse and lines that do not, and the message of each fault.
 use crate::line::parse_line;
 use crate::text::build;
+use crate::whole::build_vec;
 use std::alloc::Global;
 use std::process::Abort;
 use std::test::Fail;
@@ -66,4 +67,13 @@ fn messages(rt: HostRuntime) -> Result<(), Fail> {
         b"61616161616161616161616161616161616161616161616161616161616161616161616161616161\t1",
         "end: fault 24",
     )
+}
+
+// The bytes of the third worked example of docs/FORMAT.md.
+#[test]
+fn whole_input(rt: HostRuntime) -> Result<(), Fail> {
+    let sstable = build_vec(rt.alloc(), b"61\t3\n6162\t3\n62\t10\n")?;
+    let expected = b"\x0b\0\0\0\0\x03\x03\x00\x07\x10a\x11b\x10b\0\0\0\0";
+    assert!(rt; sstable.as_slice() == expected.as_slice());
+    Ok(())
 }

@@ -1,2 +1,1 @@
 pub mod NumberReads
-pub mod Tails

@@ -1,2 +1,4 @@
 pub mod Told
 pub mod NumberBack
+pub mod Meanings
+pub mod Rises

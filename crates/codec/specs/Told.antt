@@ -3,7 +3,8 @@ use Rattle.codec.specs.declared.fault.NumberFault.{NumberFault}
 use Rattle.codec.specs.declared.fault.NumberFault.TheVariants as number_fault
 use Rattle.codec.specs.declared.fault.CodecFault.{CodecFault}
 use Rattle.codec.specs.declared.fault.CodecFault.TheVariants as codec_fault
-use Rattle.format.specs.Faults.{Fault, fault, bad_number, codec}
+use Rattle.format.specs.declared.fault.Fault.{Fault}
+use Rattle.format.specs.Faults.{fault, bad_number, codec}
 
 abbrev pub of_number : NumberFault → Fault
 of_number (number_fault.Bad place) = bad_number place

@@ -3,6 +3,7 @@
 
 pub mod fault;
 pub mod range;
+mod rises;
 mod sums;
 pub mod u64_monotonic;
 pub mod value;

@@ -1,17 +1,18 @@
 // Values without content: no bytes, and a value at every place.
 ghost use Rattle.std.specs.Prelude.{◌≡◌, ℕ, ◌≤◌, [], replicate};
+ghost use Rattle.format.specs.Codecs.{most};
 ghost use Rattle.format.specs.Void.{void_rule, void_bytes, void_opens, void_steps};
 ghost use Rattle.format.proofs.VoidLaws.{void_back, void_short, void_within, void_held};
 
 use crate::fault::CodecFault;
 use crate::value::{Codec, MOST_VALUES};
-use format::Cursor;
+use format::{Cursor, Part};
 use std::alloc::{AllocError, Global};
 
 #[derive(Drop)]
 pub struct VoidValues {
     count: usize,
-    ghost few: { count ≤ 2001 },
+    ghost few: { count ≤ most },
 }
 
 impl Codec for VoidValues {
@@ -52,37 +53,24 @@ impl Codec for VoidValues {
     }
 
     fn write(&mut self, v: (), ordinal: u64) -> Result<(), CodecFault> {
-        if !self.allows(v) {
-            return Err(CodecFault::Rule { ordinal });
-        }
+        self.check(v, ordinal)?;
         self.count += 1;
         Ok(())
     }
 
-    fn serialize_block(&self, _output: &mut [u8]) -> bool {
-        true
+    fn serialize_block(&self, _output: &mut [u8]) -> Option<usize> {
+        Some(0)
     }
 
     fn clear(&mut self) {
         self.count = 0;
     }
 
-    fn load(_part: &[u8], _place: usize) -> Result<(Cursor, usize), CodecFault> {
-        Ok((
-            Cursor {
-                next: 0,
-                last: 0,
-                left: 0,
-            },
-            0,
-        ))
+    fn load(_part: Part<'_>) -> Result<(Cursor, usize), CodecFault> {
+        Ok((Cursor::default(), 0))
     }
 
-    fn next_value(
-        _cursor: &mut Cursor,
-        _part: &[u8],
-        _place: usize,
-    ) -> Result<Option<()>, CodecFault> {
+    fn next_value(_cursor: &mut Cursor, _part: Part<'_>) -> Result<Option<()>, CodecFault> {
         Ok(Some(()))
     }
 }

@@ -1,20 +1,16 @@
 -- An entry that was written is read back.
 use Rattle.std.proofs.Common.{◌≡◌, ℕ, suc, ◌+◌, ◌-◌, ◌<◌, ◌≤◌, Bool, true, false, cond, eqb, ltb, List, [], ◌∷◌, ◌++◌, length, take, drop, Some, Ok, Option, Result, sym, refl, ap, ◌∙◌, append_assoc, arith, length-append, length-drop}
+use Rattle.std.proofs.Math.Seq.{take-append-add}
 use Rattle.std.proofs.lemmas.List.{take_at, drop_at, drop-take, take-append-drop}
 use Rattle.std.proofs.lemmas.Bool.{cond-true, cond-false, le-ltb, eqb-true}
 use Rattle.format.specs.declared.Cursor.{Cursor}
-use Rattle.format.specs.Codecs.{Opened, Stepped}
-use Rattle.format.specs.Faults.{Fault}
+use Rattle.format.specs.Codecs.{Meaning}
+use Rattle.format.specs.declared.fault.Fault.{Fault}
 use Rattle.format.specs.Headers.{header, read_header}
 use Rattle.format.specs.Keys.{below, shared, follows}
 use Rattle.format.specs.Reading.{Position, entry, Suffix, suffix_of, suffix_at, key_with, valued, keyed, suffixed, content, entry_at}
 use Rattle.format.specs.Tables.{delta}
 use Rattle.format.proofs.HeaderLaws.{header_back}
-
--- a front that is longer than a list goes on behind it
-pub take_past : (p : List ℕ) (n : ℕ) (q : List ℕ) → take (length p + n) (p ++ q) ≡ p ++ take n q
-take_past [] n q = let e : 0 + n ≡ n = omega arith in ap (λ (k : ℕ). take k q) e
-take_past (x ∷ p) n q = let e : suc (length p) + n ≡ suc (length p + n) = omega arith in ap (λ (k : ℕ). take k (x ∷ (p ++ q))) e ∙ ap (λ (t : List ℕ). x ∷ t) (take_past p n q)
 
 -- What two keys share.
 pub shared_le : (a k : List ℕ) → (shared a k ≤ length a) × (shared a k ≤ length k)
@@ -91,7 +87,7 @@ module _ (base key : List ℕ) where
         ∙ ap read_header (drop-take next (length (delta base key) + more) area)
         ∙ ap (λ (t : List ℕ). read_header (take (length (delta base key) + more) t)) (ap (λ (k : ℕ). drop k area) at ∙ ap (drop (length before)) area_is ∙ drop_at before (head ++ rest) (length before) refl)
         ∙ ap (λ (k : ℕ). read_header (take k (head ++ rest))) (sym n)
-        ∙ ap read_header (take_past head (add + more) rest)
+        ∙ ap read_header (take-append-add head rest (add + more))
         ∙ header_back keep add (take (add + more) rest) (omega (arith, (shared_le base key).1)) (omega arith) not-one
 
     suffix_is : suffix_at area next finish ≡ Ok (record { keep = keep; place = next + length head; bytes = tail })
@@ -115,17 +111,17 @@ module _ (base key : List ℕ) where
       ∙ ap (λ (k : List ℕ). Ok k) (shared_back base key)
 
 -- an entry in an area, behind a base
-pub entry_back : {V : Type 0} (opens : List ℕ → Opened) (steps : Cursor → List ℕ → Stepped V) (base key area before behind : List ℕ) (p : Position) (more : ℕ) (v : V) (c : Cursor)
+pub entry_back : {V : Type 0} (means : Meaning V) (base key area before behind : List ℕ) (p : Position) (more : ℕ) (v : V) (c : Cursor)
     → length key ≤ 512 → ((shared base key ≡ 1) × (length key - shared base key ≡ 0) → ⊥)
     → area ≡ before ++ (delta base key ++ behind) → p.next ≡ length before → p.finish ≡ p.next + (length (delta base key) + more) → more ≤ length behind
-    → follows p.last key ≡ true → steps p.cursor (content area p.start p.finish) ≡ Ok (Some (v, c))
-    → entry_at opens steps area p base
+    → follows p.last key ≡ true → means.steps p.cursor (content area p.start p.finish) ≡ Ok (Some (v, c))
+    → entry_at means area p base
     ≡ entry (record { keep = shared base key; suffix = drop (shared base key) key; place = p.next + length (header (shared base key) (length key - shared base key)); ordinal = p.ordinal; value = v })
     (record { start = p.start; finish = p.finish; next = p.next + length (delta base key); cursor = c; last = Some key; ordinal = p.ordinal + 1 })
-entry_back opens steps base key area before behind p more v c short not-one is at ends fits f g =
+entry_back means base key area before behind p more v c short not-one is at ends fits f g =
     let s : Suffix = record { keep = shared base key; place = p.next + length (header (shared base key) (length key - shared base key)); bytes = drop (shared base key) key } in
     let n : s.place + length s.bytes ≡ p.next + length (delta base key) = omega (arith, length-append (header (shared base key) (length key - shared base key)) (drop (shared base key) key)) in
-    ap (λ (r : Result Suffix Fault). suffixed p base r (steps p.cursor (content area p.start p.finish))) (suffix_is base key area before behind p.next p.finish short not-one is at more ends fits)
-    ∙ ap (λ (r : Result (List ℕ) Fault). keyed p s r (steps p.cursor (content area p.start p.finish))) (key_is base key p.next s.place p.last short f)
+    ap (λ (r : Result Suffix Fault). suffixed p base r (means.steps p.cursor (content area p.start p.finish))) (suffix_is base key area before behind p.next p.finish short not-one is at more ends fits)
+    ∙ ap (λ (r : Result (List ℕ) Fault). keyed p s r (means.steps p.cursor (content area p.start p.finish))) (key_is base key p.next s.place p.last short f)
     ∙ ap (valued p s key) g
     ∙ ap (λ (k : ℕ). entry (record { keep = s.keep; suffix = s.bytes; place = s.place; ordinal = p.ordinal; value = v }) (record { start = p.start; finish = p.finish; next = k; cursor = c; last = Some key; ordinal = p.ordinal + 1 })) n

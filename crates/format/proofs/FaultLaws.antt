@@ -1,6 +1,7 @@
 -- What an answer by its fault says of the answer itself.
 use Rattle.std.proofs.Common.{◌≡◌, Some, None, Ok, Err, Option, Result, refl, ap, ◌∙◌}
-use Rattle.format.specs.Faults.{Fault, told, or_fault}
+use Rattle.format.specs.declared.fault.Fault.{Fault}
+use Rattle.format.specs.Faults.{told, or_fault}
 
 pub or_none : {A : Type 0} (o : Option A) (f g : Fault) → Err g ≡ or_fault o f → (o ≡ None) × (g ≡ f)
 or_none None f g e = (refl, cc)

@@ -1,34 +1,17 @@
--- Laws of headers: each way that one is read, and that what is written is read back.
-use Rattle.std.proofs.Common.{◌≡◌, ℕ, suc, ◌+◌, ◌*◌, ◌/◌, ◌%◌, ◌^◌, ◌<◌, ◌≤◌, false, ◌&&◌, eqb, ltb, List, [], ◌∷◌, ◌++◌, length, get_or, drop, Some, None, refl, ap, ◌∙◌, inl, inr, append_assoc, arith, length-append}
-use Rattle.std.proofs.lemmas.List.{drop_at, drop_more, drop_all, drop-drop}
-use Rattle.std.proofs.lemmas.Bool.{cases_lt, lt-ltb, le-ltb, ne_eqb, eq-eqb, and_left, and_right, cond-true, cond-false, cond_both}
+-- Laws of headers: how the long form is read, and that what is written is read back.
+use Rattle.std.proofs.Common.{◌≡◌, ℕ, suc, ◌+◌, ◌*◌, ◌^◌, ◌<◌, ◌≤◌, false, ◌&&◌, eqb, ltb, List, [], ◌∷◌, ◌++◌, length, get_or, drop, Some, refl, ap, ◌∙◌, inl, inr, append_assoc, arith, length-append}
+use Rattle.std.proofs.lemmas.List.{drop_at, drop_more, drop-drop}
+use Rattle.std.proofs.lemmas.Bool.{cases_lt, lt-ltb, le-ltb, ne_eqb, eq-eqb, and_left, and_right, cond-true, cond_both}
 use Rattle.format.specs.Numbers.{leb, read_leb}
 use Rattle.format.specs.Headers.{header, read_header, keep_of, add_of}
 use Rattle.format.proofs.NumberLaws.{leb_reads, leb_ten}
 
--- no byte is left
-pub head_none : (bs : List ℕ) (at : ℕ) → length bs ≤ at → read_header (drop at bs) ≡ None
-head_none bs at h = ap read_header (drop_all at bs h)
-
--- one byte
-pub head_short : (bs : List ℕ) (at : ℕ) → at < length bs → (get_or bs at 0 ≡ 1 → ⊥) → read_header (drop at bs) ≡ Some (1, (get_or bs at 0 % 16, get_or bs at 0 / 16))
-head_short bs at h n = ap read_header (drop_more bs at 0 h) ∙ cond-false (eqb (get_or bs at 0) 1) _ _ (ne_eqb (get_or bs at 0) 1 n)
-
 head_one : (bs : List ℕ) (at : ℕ) → at < length bs → get_or bs at 0 ≡ 1 → read_header (drop at bs) ≡ keep_of (drop (at + 1) bs) (read_leb (drop (at + 1) bs))
 head_one bs at h e = ap read_header (drop_more bs at 0 h) ∙ cond-true (eqb (get_or bs at 0) 1) _ _ (eq-eqb (get_or bs at 0) 1 e)
-
--- 01 without keep
-pub head_no_keep : (bs : List ℕ) (at : ℕ) → at < length bs → get_or bs at 0 ≡ 1 → read_leb (drop (at + 1) bs) ≡ None → read_header (drop at bs) ≡ None
-head_no_keep bs at h e k = head_one bs at h e ∙ ap (keep_of (drop (at + 1) bs)) k
 
 head_keep : (bs : List ℕ) (at n keep : ℕ) → at < length bs → get_or bs at 0 ≡ 1 → read_leb (drop (at + 1) bs) ≡ Some (n, keep)
     → read_header (drop at bs) ≡ add_of n keep (read_leb (drop (at + 1 + n) bs))
 head_keep bs at n keep h e k = head_one bs at h e ∙ ap (keep_of (drop (at + 1) bs)) k ∙ ap (λ (t : List ℕ). add_of n keep (read_leb t)) (drop-drop n (at + 1) bs)
-
--- 01 and keep without add
-pub head_no_add : (bs : List ℕ) (at n keep : ℕ) → at < length bs → get_or bs at 0 ≡ 1 → read_leb (drop (at + 1) bs) ≡ Some (n, keep) → read_leb (drop (at + 1 + n) bs) ≡ None
-    → read_header (drop at bs) ≡ None
-head_no_add bs at n keep h e k a = head_keep bs at n keep h e k ∙ ap (add_of n keep) a
 
 -- 01, keep and add
 pub head_long : (bs : List ℕ) (at n keep m add : ℕ) → at < length bs → get_or bs at 0 ≡ 1 → read_leb (drop (at + 1) bs) ≡ Some (n, keep) → read_leb (drop (at + 1 + n) bs) ≡ Some (m, add)
@@ -55,14 +38,6 @@ header_back keep add rest k a not-one =
         | inl q ↦ rw (lt-ltb keep 16 p, lt-ltb add 16 q, ne_eqb (keep + 16 * add) 1 (λ e. not-one (omega arith, omega arith)))
             (ap (λ (q : ℕ × (ℕ × ℕ)). Some q) (triple refl (omega arith) (omega arith)))
       ]
-    ]
-
--- the long form as it is written
-pub header_long : (keep add : ℕ) → (keep < 16 → 16 ≤ add) → header keep add ≡ 1 ∷ leb keep ++ leb add
-header_long keep add h =
-    elim (cases_lt keep 16) [
-      | inr p ↦ cond-false _ _ _ (and_left (ltb keep 16) (ltb add 16) (le-ltb keep 16 p))
-      | inl p ↦ cond-false _ _ _ (and_right (ltb keep 16) (ltb add 16) (le-ltb add 16 (h p)))
     ]
 
 -- a header takes at least a byte

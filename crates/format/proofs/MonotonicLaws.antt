@@ -6,7 +6,7 @@ use Rattle.format.specs.declared.Cursor.{Cursor}
 use Rattle.format.specs.Numbers.{leb, Number, read_leb}
 use Rattle.format.specs.Codecs.{Flaw, Allowed, allowed_after, ReadsBack, Short, Within, value_at, value_of, moved}
 use Rattle.format.specs.Sums.{rises, counted, valued}
-use Rattle.format.specs.Monotonic.{last_or, u64_rule, u64_bytes, u64_opens, u64_steps, u64_counted}
+use Rattle.format.specs.Monotonic.{u64_meaning, last_or, u64_rule, u64_opens, u64_steps, u64_counted}
 use Rattle.format.proofs.NumberLaws.{leb_reads, read_sized}
 use Rattle.format.proofs.SumLaws.{Rising, none, more, last_push, before, rise_one, part_next, whole_rises, counted_short, whole_within}
 
@@ -35,7 +35,7 @@ values_rises pre rest (more {last = last} {v = v} {vs = vs} l s r) (suc i) h =
     ∙ ap (λ (t : List ℕ). value_at u64_steps (before (length (pre ++ leb (v - last))) vs v) t i) (part_next pre last v vs rest)
     ∙ values_rises (pre ++ leb (v - last)) rest r i (omega arith)
 
-pub u64_back : ReadsBack u64_rule u64_bytes u64_opens u64_steps
+pub u64_back : ReadsBack u64_meaning
 u64_back vs rest a h =
     let r = u64_rising vs a in
     let pre = leb (length vs) in
@@ -52,7 +52,7 @@ u64_back vs rest a h =
       values = λ i l. ap (λ (t : List ℕ). value_at u64_steps c t i) e ∙ values_rises pre rest r i l;
     }
 
-pub u64_short : Short u64_rule u64_bytes
+pub u64_short : Short u64_meaning
 u64_short vs a h = omega (arith, counted_short (u64_rising vs a) (omega arith))
 
 counted_within : (part : List ℕ) (c : Cursor) (n : ℕ) (r : Number) → ((k v : ℕ) → r ≡ Some (k, v) → k ≤ length part) → u64_counted part r ≡ Ok (c, n) → n ≤ length part

@@ -3,6 +3,7 @@ use Rattle.std.proofs.Common.{◌≡◌, ℕ, zero, suc, ◌+◌, ◌-◌, ◌*�
 use lib.Bits.{bit_and, bit_or}
 use Rattle.std.proofs.lemmas.Bool.{cases_lt, cond-true, cond-false, cond_both, lt-ltb, le-ltb, ltb-true}
 use Rattle.std.proofs.lemmas.Nat.{mul-le, and_mask, or_comm, or_shifted, pow-add}
+use Rattle.std.proofs.lemmas.Nat.{pow_pos}
 use Rattle.std.proofs.lemmas.List.{drop_more, drop_all}
 use Rattle.std.proofs.lemmas.Option.{MatchOption-at_some}
 use Rattle.format.specs.Numbers.{leb_in, leb, Number, under, number_in, fits, read_leb}
@@ -40,6 +41,16 @@ leb_length (suc k) v h =
 -- a 64-bit number takes at most ten bytes
 pub leb_ten : (v : ℕ) → v < 2 ^ 64 → length (leb v) ≤ 10
 leb_ten v h = leb_length 9 v (omega arith)
+
+seven_more : (k : ℕ) → 2 ^ (7 * suc k) ≡ 2 ^ (7 * k) * 128
+seven_more k = let e : 7 * suc k ≡ 7 * k + 7 = omega arith in rw e (pow-add 2 (7 * k) 7)
+
+-- k + 1 bytes where it has more than 7 * k bits, and at most seven more
+pub leb_bits : (k v : ℕ) → v < 2 ^ (7 * suc k) → (0 < k → 2 ^ (7 * k) ≤ v) → length (leb v) ≡ k + 1
+leb_bits zero v h l = rw (leb_last v h) (omega arith)
+leb_bits (suc k) v h l =
+    let m : 2 ^ (7 * k) * 128 ≤ v = omega (arith, l (omega arith), seven_more k) in
+    rw (leb_more v (omega (arith, pow_pos (7 * k)))) (omega (arith, leb_bits k (v / 128) (omega (arith, h, seven_more (suc k))) (λ z. omega arith)))
 
 -- and at least one
 pub leb_some : (v : ℕ) → 0 < length (leb v)
@@ -112,16 +123,6 @@ onto_under value scale i b (Some p) =
 
 fuel : (i : ℕ) → i < 10 → 10 - i ≡ suc (10 - (i + 1))
 fuel i h = omega arith
-
-onto_none : (r : Number) → r ≡ onto 0 1 0 r
-onto_none None = refl
-onto_none (Some p) =
-    let e : p.1 ≡ 0 + p.1 * 1 = omega arith in
-    let l : p.0 ≡ 0 + p.0 = omega arith in
-    ap (λ (q : ℕ × ℕ). Some q) (pair l e)
-
-pub goes_start : (bs : List ℕ) → read_leb bs ≡ goes_on bs 0 1 0
-goes_start bs = ap fits (onto_none (number_in 10 bs))
 
 pub goes_unended : (bs : List ℕ) (value scale i : ℕ) → i < 10 → length bs ≤ i → goes_on bs value scale i ≡ None
 goes_unended bs value scale i h l = rw (fuel i h, drop_all i bs l)

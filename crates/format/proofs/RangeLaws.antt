@@ -1,17 +1,17 @@
 -- The laws of the codec of ranges that join, and of its edges.
-use Rattle.std.proofs.Common.{◌≡◌, ℕ, zero, suc, ◌+◌, ◌-◌, ◌*◌, ◌^◌, ◌<◌, ◌≤◌, Bool, true, false, ◌&&◌, eqb, ltb, leb as at_most, List, [], ◌∷◌, ◌++◌, length, drop, Some, None, Ok, Option, Result, sym, refl, ap, ◌∙◌, inl, inr, append_assoc, arith, length-append, length-drop}
+use Rattle.std.proofs.Common.{◌≡◌, ℕ, zero, suc, ◌+◌, ◌-◌, ◌^◌, ◌<◌, ◌≤◌, Bool, true, false, ◌&&◌, eqb, ltb, leb as at_most, List, [], ◌∷◌, ◌++◌, length, drop, Some, None, Ok, Option, Result, sym, refl, ap, ◌∙◌, inl, inr, append_assoc, arith, length-append, length-drop}
 use Rattle.std.proofs.lemmas.List.{drop_at, append-nil}
-use Rattle.std.proofs.lemmas.Bool.{and_parts, and_from, and_left, leb-true, ltb-true, eqb-true, ne_eqb, cond-true, cond-false, eq-eqb, le-leb, lt-ltb, le-ltb, cases_lt}
+use Rattle.std.proofs.lemmas.Bool.{and_parts, leb-true, ltb-true, eqb-true, ne_eqb, cond-true, cond-false, eq-eqb, lt-ltb, le-ltb, cases_lt}
 use Rattle.std.specs.List.{slice_get}
 use Rattle.format.specs.declared.Cursor.{Cursor}
 use Rattle.format.specs.declared.Range.{Range}
 use Rattle.format.specs.Numbers.{leb, Number, read_leb}
 use Rattle.format.specs.Codecs.{Flaw, Opened, Allowed, takes, allowed_after, ReadsBack, Short, Within, Reads, value_at, value_of, moved, most}
 use Rattle.format.specs.Sums.{rises, whole, valued}
-use Rattle.format.specs.Monotonic.{last_or}
-use Rattle.format.specs.Ranges.{end_or, joins, range_rule, ends, edges, range_bytes, range_started, range_counted, range_opens, range_steps, ranges_from, ranges_of}
+use Rattle.format.specs.Monotonic.{last_or, last_of}
+use Rattle.format.specs.Ranges.{range_meaning, end_or, joins, range_rule, ends, edges, range_bytes, range_started, range_counted, range_opens, range_steps, ranges_from, ranges_of}
 use Rattle.format.proofs.NumberLaws.{leb_reads, read_sized}
-use Rattle.format.proofs.SumLaws.{Rising, none, more, before, rise_one, part_next, whole_rises, counted_short, whole_within, rises_short, counted_length}
+use Rattle.format.proofs.SumLaws.{Rising, none, more, before, rise_one, part_next, whole_rises, counted_short, whole_within}
 
 -- ranges of which each starts where the one before ends, the first at a place
 pub data Joined : ℕ → List Range → Type 0 where
@@ -101,7 +101,7 @@ bytes_split r rs rest =
     ap (λ (k : ℕ). (leb (length (edges (r ∷ rs))) ++ (leb k ++ rises r.start (ends (r ∷ rs)))) ++ rest) z
     ∙ simp append_assoc
 
-pub range_back : ReadsBack range_rule range_bytes range_opens range_steps
+pub range_back : ReadsBack range_meaning
 range_back [] rest a h =
     record {
       cursor = record { next = length (leb 0); last = 0; left = 0 };
@@ -115,7 +115,7 @@ range_back (r ∷ rs) rest a h = back (range_joined r rs a)
     start_fits : Joined r.start (r ∷ rs) → r.start < 2 ^ 64
     start_fits (joined e l s j) = omega arith
 
-    back : Joined r.start (r ∷ rs) → Reads range_opens range_steps (range_bytes (r ∷ rs) ++ rest) (r ∷ rs) (length (range_bytes (r ∷ rs)))
+    back : Joined r.start (r ∷ rs) → Reads range_meaning (range_bytes (r ∷ rs) ++ rest) (r ∷ rs) (length (range_bytes (r ∷ rs)))
     back j =
         let n = length (edges (r ∷ rs)) in
         let es = ends (r ∷ rs) in
@@ -134,7 +134,7 @@ pub edges_length : (rs : List Range) → length (edges rs) ≤ length rs + 1
 edges_length [] = omega arith
 edges_length (r ∷ rs) = omega (arith, ends_length rs)
 
-pub range_short : Short range_rule range_bytes
+pub range_short : Short range_meaning
 range_short rs a h = omega (arith, counted_short (edges_rising rs a) (omega (arith, edges_length rs)), edges_length rs)
 
 started_within : (part : List ℕ) (k count : ℕ) (c : Cursor) (n : ℕ) (r : Number) → ((m v : ℕ) → r ≡ Some (m, v) → k + m ≤ length part) → range_started part k count r ≡ Ok (c, n) → n ≤ length part
@@ -206,17 +206,10 @@ joins_last [] start h n = absurd (omega arith)
 joins_last (s ∷ []) start h n = absurd (n refl)
 joins_last (s ∷ e ∷ es) start h n = ap (λ (k : ℕ). eqb k start) (end_from e es)
 
--- their rises take at most ten bytes each
-pub edges_short : (es : List ℕ) → (length es ≡ 1 → ⊥) → Allowed range_rule (ranges_of es) → length (rises 0 es) ≤ 10 * length es
-edges_short es n a = rw (edges_of es n) at (rises_short (edges_rising (ranges_of es) a))
-
 -- What a codec that holds edges takes.
-joins_held : (es : List ℕ) (start : ℕ) → (length es ≡ 1 → ⊥) → (0 < length es → last_or 0 es ≡ start) → joins (ranges_of es) start ≡ true
-joins_held [] start n j = refl
-joins_held (e ∷ es) start n j = joins_last (e ∷ es) start (omega arith) n ∙ eq-eqb _ start (j (omega arith))
-
-pub takes_apart : (es : List ℕ) (r : Range) → 0 < length es → (length es ≡ 1 → ⊥) → (last_or 0 es ≡ r.start → ⊥) → takes range_rule (ranges_of es) r ≡ false
-takes_apart es r h n d = and_left _ _ (and_left _ _ (joins_last es r.start h n ∙ ne_eqb _ _ d))
+pub joins_where : (es : List ℕ) (start : ℕ) → (length es ≡ 1 → ⊥) → joins (ranges_of es) start ≡ elim (last_of es) [ None ↦ true | Some e ↦ eqb e start ]
+joins_where [] start n = refl
+joins_where (e ∷ es) start n = joins_last (e ∷ es) start (omega arith) n
 
 -- one edge more than ranges
 room : (n : ℕ) → ltb (n - 1) most ≡ ltb n 2002
@@ -225,12 +218,14 @@ room n = elim (cases_lt n 2002) [
   | inr h ↦ le-ltb (n - 1) most (omega arith) ∙ sym (le-ltb n 2002 h)
 ]
 
-pub takes_joining : (es : List ℕ) (r : Range) → (length es ≡ 1 → ⊥) → (0 < length es → last_or 0 es ≡ r.start) → r.start ≤ r.end → r.end < 2 ^ 64
-    → takes range_rule (ranges_of es) r ≡ ltb (length es) 2002
-takes_joining es r n j h s =
-    ap (λ (b : Bool). b && ltb (length (ranges_of es)) most) (and_from _ _ (joins_held es r.start n j) (and_from _ _ (le-leb r.start r.end h) (lt-ltb r.end (2 ^ 64) s)))
-    ∙ ap (λ (k : ℕ). ltb k most) (ranges_length es)
-    ∙ room (length es)
+pub takes_where : (es : List ℕ) (r : Range) → r.end < 2 ^ 64
+    → takes range_rule (ranges_of es) r ≡ (joins (ranges_of es) r.start && at_most r.start r.end) && ltb (length es) 2002
+takes_where es r s = rw (ranges_length es, room (length es), lt-ltb r.end (2 ^ 64) s) (by (joins (ranges_of es) r.start) (at_most r.start r.end) (ltb (length es) 2002))
+  where
+    by : (a b c : Bool) → (a && (b && true)) && c ≡ (a && b) && c
+    by true true c = refl
+    by true false c = refl
+    by false b c = refl
 
 -- One range more.
 pub ranges_more : (es : List ℕ) (r : Range) → 0 < length es → (length es ≡ 1 → ⊥) → range_rule (ranges_of es) r ≡ true → ranges_of (es ++ r.end ∷ []) ≡ ranges_of es ++ r ∷ []
@@ -239,21 +234,36 @@ ranges_more es r h n a =
     let e : last_or 0 es ≡ r.start = eqb-true _ _ (sym (joins_last es r.start h n) ∙ j) in
     ranges_push es r.end h ∙ ap (λ (k : ℕ). ranges_of es ++ record { start = k; end = r.end } ∷ []) e
 
-pub ranges_first : (es : List ℕ) (r : Range) → length es ≡ 0 → ranges_of ((es ++ r.start ∷ []) ++ r.end ∷ []) ≡ ranges_of es ++ r ∷ []
-ranges_first [] r z = refl
-ranges_first (e ∷ es) r z = absurd (omega arith)
+-- Edges before the end of a range that follows others: its start is the last of them.
+pub record Started (es : List ℕ) (r : Range) (fs : List ℕ) : Type 0 where
+  pub ranges : ranges_of (fs ++ r.end ∷ []) ≡ ranges_of es ++ r ∷ []
+  pub last : last_or 0 fs ≤ r.end
+  pub some : 0 < length fs
+  pub few : length fs ≤ most
+  pub allowed : range_rule (ranges_of es) r ≡ true
 
--- the bytes of the first range
-pub rises_first : (es : List ℕ) (r : Range) → length es ≡ 0 → length (rises 0 ((es ++ r.start ∷ []) ++ r.end ∷ [])) ≡ length (leb r.start) + length (leb (r.end - r.start))
-rises_first [] r z =
-    let k : length (leb (r.start - 0)) ≡ length (leb r.start) = ap (λ (m : ℕ). length (leb m)) (omega arith) in
-    omega (arith, k, length-append (leb (r.start - 0)) (leb (r.end - r.start) ++ []), length-append (leb (r.end - r.start)) [])
-rises_first (e ∷ es) r z = absurd (omega arith)
+-- its start is put behind them where there are none
+pub started_first : (es : List ℕ) (r : Range) → takes range_rule (ranges_of es) r ≡ true → length es ≡ 0 → Started es r (es ++ r.start ∷ [])
+started_first [] r t z =
+    let a = (and_parts (range_rule [] r) (ltb 0 most) t).0 in
+    let h = and_parts (at_most r.start r.end) (ltb r.end (2 ^ 64)) (and_parts true (at_most r.start r.end && ltb r.end (2 ^ 64)) a).1 in
+    record { ranges = refl; last = leb-true _ _ h.0; some = omega arith; few = omega arith; allowed = a }
+started_first (e ∷ es) r t z = absurd (omega arith)
 
-pub counted_first : (es : List ℕ) (r : Range) → length es ≡ 0
-    → length (range_bytes (ranges_of es ++ r ∷ [])) ≡ length (leb 2) + length (leb r.start) + length (leb (r.end - r.start))
-counted_first [] r z = omega (arith, counted_length (r.start ∷ r.end ∷ []), rises_first [] r refl)
-counted_first (e ∷ es) r z = absurd (omega arith)
+-- and stands there already where there are some
+pub started_next : (es : List ℕ) (r : Range) → takes range_rule (ranges_of es) r ≡ true → 0 < length es → (length es ≡ 1 → ⊥) → Started es r es
+started_next es r t s n =
+    let p = and_parts (range_rule (ranges_of es) r) (ltb (length (ranges_of es)) most) t in
+    let a = and_parts (joins (ranges_of es) r.start) (at_most r.start r.end && ltb r.end (2 ^ 64)) p.0 in
+    let h = and_parts (at_most r.start r.end) (ltb r.end (2 ^ 64)) a.1 in
+    let e : last_or 0 es ≡ r.start = eqb-true _ _ (sym (joins_last es r.start s n) ∙ a.0) in
+    record {
+      ranges = ranges_more es r s n p.0;
+      last = omega (arith, leb-true _ _ h.0, e);
+      some = s;
+      few = omega (arith, ltb-true _ _ p.1, ranges_length es);
+      allowed = p.0;
+    }
 
 -- What a part opens as.
 pub opens_zero : (part : List ℕ) (n count : ℕ) → read_leb part ≡ Some (n, count) → count ≡ 0 → range_opens part ≡ Ok (record { next = n; last = 0; left = 0 }, n)
@@ -262,6 +272,6 @@ opens_zero part n count e z = ap (range_counted part) e ∙ cond-true (eqb count
 pub opens_some : (part : List ℕ) (n count : ℕ) (r : Number) → read_leb part ≡ Some (n, count) → 0 < count → read_leb (drop n part) ≡ r → range_opens part ≡ range_started part n count r
 opens_some part n count r e h f = ap (range_counted part) e ∙ cond-false (eqb count 0) _ _ (ne_eqb count 0 (λ z. omega arith)) ∙ ap (range_started part n count) f
 
--- the ranges of edges that are counted by n are held
-pub ranges_held : (es : List ℕ) (n : ℕ) → Allowed range_rule (ranges_of es) → n ≡ length es → n ≤ 2002 → Allowed range_rule (ranges_of es) × (length (ranges_of es) ≤ most)
-ranges_held es n a e h = (a, omega (arith, ranges_length es))
+-- the ranges of few edges are held
+pub ranges_held : (es : List ℕ) → Allowed range_rule (ranges_of es) → length es ≤ 2002 → Allowed range_rule (ranges_of es) × (length (ranges_of es) ≤ most)
+ranges_held es a h = (a, omega (arith, ranges_length es))

@@ -1,9 +1,8 @@
--- A step of a reading that gives an entry moves on, stays within the area, and counts.
-use Rattle.std.proofs.Common.{◌≡◌, ℕ, ◌+◌, ◌-◌, ◌<◌, ◌≤◌, eqb, ltb, List, [], ◌∷◌, length, take, drop, IfSome, IfOk, Some, None, Ok, Err, Option, Result, refl, arith, length-drop, length-take}
+-- A step of a reading that gives an entry moves on, stays within the area, counts, and leaves a key.
+use Rattle.std.proofs.Common.{◌≡◌, ℕ, ◌+◌, ◌-◌, ◌<◌, ◌≤◌, eqb, ltb, List, [], ◌∷◌, length, take, drop, IfSome, IsSome, IfOk, Some, None, Ok, Err, Option, Result, refl, arith, length-drop, length-take}
 use Rattle.std.proofs.lemmas.Bool.{cond_both, eqb-true}
-use Rattle.format.specs.declared.Cursor.{Cursor}
-use Rattle.format.specs.Codecs.{Opened, Stepped}
-use Rattle.format.specs.Faults.{Fault}
+use Rattle.format.specs.Codecs.{Meaning, Opened, Stepped}
+use Rattle.format.specs.declared.fault.Fault.{Fault}
 use Rattle.format.specs.Headers.{Header, read_header, keep_of, add_of}
 use Rattle.format.specs.Numbers.{Number, read_leb}
 use Rattle.format.specs.Reading.{Position, Step, entry, ended, faulted, Suffix, suffix_of, suffix_at, key_with, key_of, valued, keyed, suffixed, content, entry_at, opened, loaded, block_at, step_at}
@@ -14,6 +13,7 @@ pub record Onward (area : List ℕ) (next ordinal : ℕ) (q : Position) : Type 0
   pub further : next < q.next
   pub inside : q.next ≤ length area
   pub counted : q.ordinal ≡ ordinal + 1
+  pub has_key : IsSome q.last
 
 abbrev pub Moves : {V : Type 0} → List ℕ → ℕ → ℕ → Step V → Type 0
 Moves area next ordinal s = elim s [ entry d q ↦ Onward area next ordinal q × (d.ordinal ≡ ordinal) | ended ↦ Unit {0} | faulted f ↦ Unit {0} ]
@@ -54,7 +54,7 @@ suffix_at_in area next finish = suffix_in area next finish (read_header (drop ne
 module _ {V : Type 0} where
   valued_moves : (area : List ℕ) (p : Position) (s : Suffix) (key : List ℕ) (g : Stepped V) → p.next < s.place → s.place + length s.bytes ≤ length area
       → Moves area p.next p.ordinal (valued p s key g)
-  valued_moves area p s key (Ok (Some g)) h l = (record { further = omega arith; inside = l; counted = refl }, refl)
+  valued_moves area p s key (Ok (Some g)) h l = (record { further = omega arith; inside = l; counted = refl; has_key = refl }, refl)
   valued_moves area p s key (Ok None) h l = tt
   valued_moves area p s key (Err f) h l = tt
 
@@ -69,28 +69,28 @@ module _ {V : Type 0} where
 
   -- a step from further on
   later : (area : List ℕ) (m n ordinal : ℕ) (s : Step V) → m ≤ n → Moves area n ordinal s → Moves area m ordinal s
-  later area m n ordinal (entry d q) h (o, e) = (record { further = omega (arith, o.further); inside = o.inside; counted = o.counted }, e)
+  later area m n ordinal (entry d q) h (o, e) = (record { further = omega (arith, o.further); inside = o.inside; counted = o.counted; has_key = o.has_key }, e)
   later area m n ordinal ended h o = tt
   later area m n ordinal (faulted f) h o = tt
 
-module _ {V : Type 0} (opens : List ℕ → Opened) (steps : Cursor → List ℕ → Stepped V) where
-  entry_moves : (area : List ℕ) (p : Position) (base : List ℕ) → Moves area p.next p.ordinal (entry_at opens steps area p base)
-  entry_moves area p base = suffixed_moves area p base (suffix_at area p.next p.finish) (steps p.cursor (content area p.start p.finish)) (suffix_at_in area p.next p.finish)
+module _ {V : Type 0} (means : Meaning V) where
+  entry_moves : (area : List ℕ) (p : Position) (base : List ℕ) → Moves area p.next p.ordinal (entry_at means area p base)
+  entry_moves area p base = suffixed_moves area p base (suffix_at area p.next p.finish) (means.steps p.cursor (content area p.start p.finish)) (suffix_at_in area p.next p.finish)
 
-  opened_moves : (area : List ℕ) (start finish : ℕ) (p : Position) (o : Opened) → Moves area start p.ordinal (opened opens steps area start finish p o)
+  opened_moves : (area : List ℕ) (start finish : ℕ) (p : Position) (o : Opened) → Moves area start p.ordinal (opened means area start finish p o)
   opened_moves area start finish p (Err f) = tt
   opened_moves area start finish p (Ok o) =
       cond_both (ltb (start + 5 + o.1) finish) _ _ (Moves area start p.ordinal)
       (λ _. later area start (start + 5 + o.1) p.ordinal _ (omega arith) (entry_moves area (record { start = start; finish = finish; next = start + 5 + o.1; cursor = o.0; last = p.last; ordinal = p.ordinal }) []))
       (λ _. tt)
 
-  loaded_moves : (area : List ℕ) (start : ℕ) (p : Position) (r : Result (Option ℕ) Fault) → Moves area start p.ordinal (loaded opens steps area start p r)
-  loaded_moves area start p (Ok (Some finish)) = opened_moves area start finish p (opens (content area start finish))
+  loaded_moves : (area : List ℕ) (start : ℕ) (p : Position) (r : Result (Option ℕ) Fault) → Moves area start p.ordinal (loaded means area start p r)
+  loaded_moves area start p (Ok (Some finish)) = opened_moves area start finish p (means.opens (content area start finish))
   loaded_moves area start p (Ok None) = tt
   loaded_moves area start p (Err f) = tt
 
   -- a step that gives an entry moves on
-  pub step_moves : (area : List ℕ) (p : Position) → Moves area p.next p.ordinal (step_at opens steps area p)
+  pub step_moves : (area : List ℕ) (p : Position) → Moves area p.next p.ordinal (step_at means area p)
   step_moves area p =
       cond_both (ltb (length area) p.finish) _ _ (Moves area p.next p.ordinal) (λ _. tt)
       (λ _. cond_both (eqb p.next p.finish) _ _ (Moves area p.next p.ordinal)

@@ -1,18 +1,28 @@
 -- Laws of rising numbers: their bytes one by one, how many these are, and that a cursor walks through them.
-use Rattle.std.proofs.Common.{◌≡◌, ℕ, zero, suc, ◌+◌, ◌-◌, ◌*◌, ◌^◌, ◌<◌, ◌≤◌, true, false, eqb, ltb, List, [], ◌∷◌, ◌++◌, length, drop, IfSome, IfOk, Some, None, Ok, Err, Option, Result, sym, refl, ap, ◌∙◌, append_assoc, arith, length-append, length-drop, MatchResult}
+use Rattle.std.proofs.Common.{◌≡◌, ℕ, zero, suc, ◌+◌, ◌-◌, ◌*◌, ◌^◌, ◌<◌, ◌≤◌, eqb, ltb, List, [], ◌∷◌, ◌++◌, length, drop, IfSome, IfOk, Some, None, Ok, Err, Option, Result, sym, refl, ap, ◌∙◌, append_assoc, arith, length-append, length-drop, MatchResult}
 use Rattle.std.proofs.lemmas.List.{drop_at, length_push, append-nil}
-use Rattle.std.proofs.lemmas.Bool.{lt-ltb, le-ltb, eq-eqb, ne_eqb, eqb-false, cond_both, cond-true, cond-false}
+use Rattle.std.proofs.lemmas.Bool.{lt-ltb, ne_eqb, eqb-false, cond_both}
+use Rattle.std.specs.List.{slice_get}
 use Rattle.format.specs.declared.Cursor.{Cursor}
 use Rattle.format.specs.Numbers.{leb, Number, read_leb}
-use Rattle.format.specs.Codecs.{Flaw, no_number, overflow, placed, flaw_at, given, moved}
-use Rattle.format.specs.Faults.{Fault}
-use Rattle.format.specs.Sums.{rises, counted, raised, rise, end_in, whole, with_end, moves, risen, valued}
-use Rattle.format.specs.Monotonic.{last_or}
+use Rattle.format.specs.Codecs.{Flaw, placed, flaw_at, given, moved}
+use Rattle.format.specs.declared.fault.Fault.{Fault}
+use Rattle.format.specs.Sums.{rises, counted, raised, rise, end_in, whole, with_end, valued}
+use Rattle.format.specs.Monotonic.{last_or, last_of, u64_steps}
 use Rattle.format.proofs.NumberLaws.{leb_ten, leb_reads, read_sized}
 
 pub last_push : (v : ℕ) (vs : List ℕ) (w : ℕ) → last_or v (vs ++ w ∷ []) ≡ w
 last_push v [] w = refl
 last_push v (u ∷ vs) w = last_push u vs w
+
+last_at : (v : ℕ) (vs : List ℕ) → slice_get (v ∷ vs) (length vs) ≡ Some (last_or v vs)
+last_at v [] = refl
+last_at v (w ∷ ws) = last_at w ws
+
+-- the last number is the one at the last place
+pub last_get : (vs : List ℕ) → slice_get vs (length vs - 1) ≡ last_of vs
+last_get [] = refl
+last_get (v ∷ vs) = let e : suc (length vs) - 1 ≡ length vs = omega arith in ap (slice_get (v ∷ vs)) e ∙ last_at v vs
 
 -- one number more, one rise more
 pub rises_push : (last : ℕ) (vs : List ℕ) (v : ℕ) → rises last (vs ++ v ∷ []) ≡ rises last vs ++ leb (v - last_or last vs)
@@ -24,6 +34,9 @@ pub data Rising : ℕ → List ℕ → Type 0 where
   none : {last : ℕ} → Rising last []
   more : {last v : ℕ} {vs : List ℕ} → last ≤ v → v < 2 ^ 64 → Rising v vs → Rising last (v ∷ vs)
 
+pub rising_next : {last v : ℕ} {vs : List ℕ} → Rising last (v ∷ vs) → (last ≤ v) × Rising v vs
+rising_next (more h s r) = (h, r)
+
 -- each rise takes at most ten bytes
 pub rises_short : {last : ℕ} {vs : List ℕ} → Rising last vs → length (rises last vs) ≤ 10 * length vs
 rises_short none = omega arith
@@ -31,23 +44,6 @@ rises_short (more {last = last} {v = v} {vs = vs} h s r) = simp length-append (o
 
 pub counted_short : {vs : List ℕ} → Rising 0 vs → length vs < 2 ^ 64 → length (counted vs) ≤ 10 * (length vs + 1)
 counted_short {vs} r h = simp length-append (omega (arith, leb_ten (length vs) h, rises_short r))
-
--- Each way that a cursor can go.
-pub rise_none : (c : Cursor) (part : List ℕ) → c.left ≡ 0 → rise c part ≡ Ok None
-rise_none c part z = cond-true (eqb c.left 0) _ _ (eq-eqb c.left 0 z)
-
-rise_some : (c : Cursor) (part : List ℕ) → 0 < c.left → rise c part ≡ raised c (read_leb (drop c.next part))
-rise_some c part h = cond-false (eqb c.left 0) _ _ (ne_eqb c.left 0 (λ z. omega arith))
-
-pub rise_bad : (c : Cursor) (part : List ℕ) → 0 < c.left → read_leb (drop c.next part) ≡ None → rise c part ≡ Err no_number
-rise_bad c part h e = rise_some c part h ∙ ap (raised c) e
-
-pub rise_over : (c : Cursor) (part : List ℕ) (n by : ℕ) → 0 < c.left → read_leb (drop c.next part) ≡ Some (n, by) → 2 ^ 64 ≤ c.last + by → rise c part ≡ Err overflow
-rise_over c part n by h e s = rise_some c part h ∙ ap (raised c) e ∙ cond-false _ _ _ (le-ltb (c.last + by) (2 ^ 64) s)
-
-pub rise_moves : (c : Cursor) (part : List ℕ) (n by : ℕ) → 0 < c.left → read_leb (drop c.next part) ≡ Some (n, by) → c.last + by < 2 ^ 64
-    → rise c part ≡ Ok (Some (record { next = c.next + n; last = c.last + by; left = c.left - 1 }))
-rise_moves c part n by h e s = rise_some c part h ∙ ap (raised c) e ∙ cond-true _ _ _ (lt-ltb (c.last + by) (2 ^ 64) s)
 
 -- A cursor stays within the part.
 abbrev RiseIn : List ℕ → Result (Option Cursor) Flaw → Type 0
@@ -87,9 +83,6 @@ walked m c part r = elim r [ Ok o ↦ elim o [ Some d ↦ end_in m d part | None
 
 pub end_more : (m : ℕ) (c d : Cursor) (part : List ℕ) → rise c part ≡ Ok (Some d) → end_in (suc m) c part ≡ end_in m d part
 end_more m c d part e = ap (walked m c part) e
-
-pub end_none : (m : ℕ) (c : Cursor) (part : List ℕ) → rise c part ≡ Ok None → end_in (suc m) c part ≡ Ok c.next
-end_none m c part e = ap (walked m c part) e
 
 pub end_flaw : (m : ℕ) (c : Cursor) (part : List ℕ) (f : Flaw) → rise c part ≡ Err f → end_in (suc m) c part ≡ Err f
 end_flaw m c part f e = ap (walked m c part) e
@@ -132,6 +125,10 @@ pub whole_rises : (pre : List ℕ) {last : ℕ} {vs : List ℕ} (rest : List ℕ
     → whole (before (length pre) vs last) (pre ++ (rises last vs ++ rest)) ≡ Ok (before (length pre) vs last, length pre + length (rises last vs))
 whole_rises pre {last} {vs} rest r = ap (with_end (before (length pre) vs last)) (end_rises pre rest r)
 
+-- the number that a cursor comes to
+abbrev summed : Cursor → ℕ
+summed c = c.last
+
 -- A cursor that moves has one number less before it; one with none left does not move.
 abbrev Falls : Cursor → Result (Option Cursor) Flaw → Type 0
 Falls c r = MatchResult r (λ o. IfSome o (λ d. c.left ≡ suc d.left)) (λ _. 0 < c.left)
@@ -146,33 +143,20 @@ rise_falls c part =
     (λ e. raised_falls c (read_leb (drop c.next part)) (omega (arith, eqb-false c.left 0 e)))
 
 -- What a loop learns from each answer on the way.
-on : (c d : Cursor) (part : List ℕ) (place : ℕ) (r : Result (Option Cursor) Flaw) → rise c part ≡ r → Falls c r → Ok true ≡ placed place (moves r) → d ≡ risen c r
-    → (end_in d.left d part ≡ end_in c.left c part) × (d.left < c.left)
-on c d part place (Ok (Some e)) q h a l =
+on : (c d : Cursor) (part : List ℕ) (place v : ℕ) (r : Result (Option Cursor) Flaw) → rise c part ≡ r → Falls c r
+    → Ok (Some v) ≡ placed place (given (valued summed r)) → d ≡ moved c (valued summed r) → (end_in d.left d part ≡ end_in c.left c part) × (d.left < c.left)
+on c d part place v (Ok (Some e)) q h a l =
     let n : c.left ≡ suc d.left = rw l h in
     let m : rise c part ≡ Ok (Some d) = rw l q in
     (sym (ap (λ (k : ℕ). end_in k c part) n ∙ end_more d.left c d part m), omega arith)
-on c d part place (Ok None) q h a l = let z : ◌≡◌ {A = ℕ} 0 1 = cc in absurd (omega arith)
-on c d part place (Err f) q h a l = let z : ◌≡◌ {A = ℕ} 0 1 = cc in absurd (omega arith)
+on c d part place v (Ok None) q h a l = let z : ◌≡◌ {A = ℕ} 0 1 = cc in absurd (omega arith)
+on c d part place v (Err f) q h a l = let z : ◌≡◌ {A = ℕ} 0 1 = cc in absurd (omega arith)
 
-pub walks_on : (c d : Cursor) (part : List ℕ) (place : ℕ) → Ok true ≡ placed place (moves (rise c part)) → d ≡ risen c (rise c part)
+pub walks_on : (c d : Cursor) (part : List ℕ) (place v : ℕ) → Ok (Some v) ≡ placed place (given (u64_steps c part)) → d ≡ moved c (u64_steps c part)
     → (end_in d.left d part ≡ end_in c.left c part) × (d.left < c.left)
-walks_on c d part place a l = on c d part place (rise c part) refl (rise_falls c part) a l
+walks_on c d part place v a l = on c d part place v (rise c part) refl (rise_falls c part) a l
 
-end_here : (m : ℕ) (c : Cursor) (part : List ℕ) → rise c part ≡ Ok None → end_in m c part ≡ Ok c.next
-end_here zero c part e = refl
-end_here (suc m) c part e = end_none m c part e
-
-at_end_lem : (c d : Cursor) (part : List ℕ) (place : ℕ) (r : Result (Option Cursor) Flaw) → rise c part ≡ r → Ok false ≡ placed place (moves r) → d ≡ risen c r
-    → end_in c.left c part ≡ Ok d.next
-at_end_lem c d part place (Ok (Some e)) q a l = cc
-at_end_lem c d part place (Ok None) q a l = rw l (end_here c.left c part q)
-at_end_lem c d part place (Err f) q a l = cc
-
-pub walks_to_end : (c d : Cursor) (part : List ℕ) (place : ℕ) → Ok false ≡ placed place (moves (rise c part)) → d ≡ risen c (rise c part) → end_in c.left c part ≡ Ok d.next
-walks_to_end c d part place a l = at_end_lem c d part place (rise c part) refl a l
-
-at_flaw : (c : Cursor) (part : List ℕ) (place : ℕ) (g : Fault) (r : Result (Option Cursor) Flaw) → rise c part ≡ r → Falls c r → Err g ≡ placed place (moves r)
+at_flaw : (c : Cursor) (part : List ℕ) (place : ℕ) (g : Fault) (r : Result (Option Cursor) Flaw) → rise c part ≡ r → Falls c r → Err g ≡ placed place (given (valued summed r))
     → placed place (end_in c.left c part) ≡ Err g
 at_flaw c part place g (Ok (Some e)) q h a = cc
 at_flaw c part place g (Ok None) q h a = cc
@@ -181,28 +165,8 @@ at_flaw c part place g (Err f) q h a =
     let t : flaw_at place f ≡ g = cc in
     ap (placed place) (ap (λ (k : ℕ). end_in k c part) n ∙ end_flaw (c.left - 1) c part f q) ∙ ap (λ (z : Fault). Err z) t
 
-pub walks_to_flaw : (c : Cursor) (part : List ℕ) (place : ℕ) (g : Fault) → Err g ≡ placed place (moves (rise c part)) → placed place (end_in c.left c part) ≡ Err g
+pub walks_to_flaw : (c : Cursor) (part : List ℕ) (place : ℕ) (g : Fault) → Err g ≡ placed place (given (u64_steps c part)) → placed place (end_in c.left c part) ≡ Err g
 walks_to_flaw c part place g a = at_flaw c part place g (rise c part) refl (rise_falls c part) a
-
--- What a step that gives a value learns from each answer.
-module _ {V : Type 0} (f : Cursor → V) (c d : Cursor) (place : ℕ) where
-  pub valued_moved : (r : Result (Option Cursor) Flaw) → Ok true ≡ placed place (moves r) → d ≡ risen c r
-      → (Ok (Some (f d)) ≡ placed place (given (valued f r))) × (d ≡ moved c (valued f r))
-  valued_moved (Ok (Some e)) a l = (ap (λ (k : Cursor). Ok (Some (f k))) l, l)
-  valued_moved (Ok None) a l = (cc, cc)
-  valued_moved (Err e) a l = (cc, cc)
-
-  pub valued_none : (r : Result (Option Cursor) Flaw) → Ok false ≡ placed place (moves r) → d ≡ risen c r
-      → (Ok None ≡ placed place (given (valued f r))) × (d ≡ moved c (valued f r))
-  valued_none (Ok (Some e)) a l = (cc, cc)
-  valued_none (Ok None) a l = (refl, l)
-  valued_none (Err e) a l = (cc, cc)
-
-  pub valued_flaw : (g : Fault) (r : Result (Option Cursor) Flaw) → Err g ≡ placed place (moves r) → d ≡ risen c r
-      → (Err g ≡ placed place (given (valued f r))) × (d ≡ moved c (valued f r))
-  valued_flaw g (Ok (Some e)) a l = (cc, cc)
-  valued_flaw g (Ok None) a l = (cc, cc)
-  valued_flaw g (Err e) a l = let t : g ≡ flaw_at place e = cc in (ap (λ (z : Fault). Err z) t, l)
 
 -- How many bytes a count and rises take, and with one number more.
 pub counted_length : (vs : List ℕ) → length (counted vs) ≡ length (leb (length vs)) + length (rises 0 vs)

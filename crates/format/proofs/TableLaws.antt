@@ -1,14 +1,9 @@
 -- One entry more: in the values, the delta part and the cutting of entries into blocks.
 use Rattle.std.proofs.Common.{◌≡◌, ℕ, cond, ltb, List, [], ◌∷◌, ◌++◌, length, sym, refl, ap, ◌∙◌, append_assoc}
 use Rattle.std.proofs.lemmas.List.{append-nil}
-use Rattle.format.specs.Tables.{Entry, block_len, delta, values, deltas_after, deltas, cut_from}
+use Rattle.format.specs.Tables.{Entry, block_len, delta, values, deltas_after, deltas, last_after, cut_from}
 
 module _ {V : Type 0} where
-  -- the last key of some entries behind a key
-  abbrev pub last_after : List ℕ → List (Entry V) → List ℕ
-  last_after k [] = k
-  last_after k (e ∷ es) = last_after e.key es
-
   pub last_push : (k : List ℕ) (os : List (Entry V)) (e : Entry V) → last_after k (os ++ e ∷ []) ≡ e.key
   last_push k [] e = refl
   last_push k (o ∷ os) e = last_push o.key os e

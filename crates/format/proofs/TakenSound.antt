@@ -1,8 +1,9 @@
 -- What a writer takes, whatever the calls, is sound: its sstable reads back.
 use Rattle.std.proofs.Common.{◌≡◌, ℕ, ◌≤◌, Bool, true, false, cond, ltb, leb as at_most, List, [], ◌∷◌, ◌++◌, length, Some, None, Option, sym, refl, ap, ◌∙◌, arith}
 use Rattle.std.proofs.lemmas.Bool.{and_parts, and_from, le-leb, ltb-false}
-use Rattle.format.specs.Codecs.{allowed_after, Allowed}
-use Rattle.format.specs.Faults.{Fault, fault, codec}
+use Rattle.format.specs.Codecs.{Meaning, allowed_after, Allowed}
+use Rattle.format.specs.declared.fault.Fault.{Fault}
+use Rattle.format.specs.Faults.{fault, codec}
 use Rattle.format.specs.Keys.{longest, follows}
 use Rattle.format.specs.Sound.{rising, short_keys, allowed_in, Sound}
 use Rattle.format.specs.Tables.{Entry, block_len, values, deltas, cut_from}
@@ -12,7 +13,7 @@ use Rattle.format.proofs.TableLaws.{values_push, open_step}
 
 module _ {V : Type 0} where
   -- the last key of entries behind another
-  abbrev last_of : Option (List ℕ) → List (Entry V) → Option (List ℕ)
+  abbrev pub last_of : Option (List ℕ) → List (Entry V) → Option (List ℕ)
   last_of prev [] = prev
   last_of prev (e ∷ es) = last_of (Some e.key) es
 
@@ -20,11 +21,11 @@ module _ {V : Type 0} where
   last_is e [] = refl
   last_is e (f ∷ es) = last_is f es
 
-  last_of_lem : (es : List (Entry V)) → last_key es ≡ last_of None es
+  pub last_of_lem : (es : List (Entry V)) → last_key es ≡ last_of None es
   last_of_lem [] = refl
   last_of_lem (e ∷ es) = last_is e es
 
-  rising_push : (prev : Option (List ℕ)) (es : List (Entry V)) (e : Entry V) → rising prev es ≡ true → follows (last_of prev es) e.key ≡ true → rising prev (es ++ e ∷ []) ≡ true
+  pub rising_push : (prev : Option (List ℕ)) (es : List (Entry V)) (e : Entry V) → rising prev es ≡ true → follows (last_of prev es) e.key ≡ true → rising prev (es ++ e ∷ []) ≡ true
   rising_push prev [] e r f = and_from _ _ f refl
   rising_push prev (x ∷ es) e r f =
       let rs = and_parts (follows prev x.key) (rising (Some x.key) es) r in
@@ -107,11 +108,11 @@ module _ {V : Type 0} where
       by false p true q e' = (ltb-false longest (length k) p, q)
       by false p false q e' = let z : ◌≡◌ {A = ℕ} 0 1 = cc in absurd (omega arith)
 
-  module _ (rule : List V → V → Bool) (bytes : List V → List ℕ) (room : ℕ) where
-    entry_accepted : (es : List (Entry V)) (e : Entry V) → entry_refusal rule bytes es e room ≡ None → rule (values (open_block es)) e.value ≡ true
-    entry_accepted es e r = by (rule (values (open_block es)) e.value) r
+  module _ (means : Meaning V) (room : ℕ) where
+    entry_accepted : (es : List (Entry V)) (e : Entry V) → entry_refusal means es e room ≡ None → means.rule (values (open_block es)) e.value ≡ true
+    entry_accepted es e r = by (means.rule (values (open_block es)) e.value) r
       where
-        by : (t : Bool) → cond t (flush_refusal bytes es e room) (Some (fault codec 3 (length es))) ≡ None → t ≡ true
+        by : (t : Bool) → cond t (flush_refusal means.bytes es e room) (Some (fault codec 3 (length es))) ≡ None → t ≡ true
         by true r' = refl
         by false r' = cc
 
@@ -122,35 +123,35 @@ module _ {V : Type 0} where
     Held es finished = Unit {0}
 
     abbrev Fine : Written V → Type 0
-    Fine w = Sound rule w.taken × Held w.taken w.waits
+    Fine w = Sound means.rule w.taken × Held w.taken w.waits
 
-    took : (es : List (Entry V)) (k : List ℕ) (v : V) → Sound rule es → (length k ≤ 512) × (follows (last_key es) k ≡ true) → entry_refusal rule bytes es (record { key = k; value = v }) room ≡ None → Sound rule (es ++ record { key = k; value = v } ∷ [])
-    took es k v s h e = sound_push rule es (record { key = k; value = v }) s h.0 h.1 (entry_accepted es (record { key = k; value = v }) e)
+    took : (es : List (Entry V)) (k : List ℕ) (v : V) → Sound means.rule es → (length k ≤ 512) × (follows (last_key es) k ≡ true) → entry_refusal means es (record { key = k; value = v }) room ≡ None → Sound means.rule (es ++ record { key = k; value = v } ∷ [])
+    took es k v s h e = sound_push means.rule es (record { key = k; value = v }) s h.0 h.1 (entry_accepted es (record { key = k; value = v }) e)
 
-    fine_accepted : (es : List (Entry V)) (w : Waiting) (c : Call V) → Sound rule es → Held es w → refusal_in rule bytes es w c room ≡ None → Fine (accepted_in es w c)
+    fine_accepted : (es : List (Entry V)) (w : Waiting) (c : Call V) → Sound means.rule es → Held es w → refusal_in means es w c room ≡ None → Fine (accepted_in es w c)
     fine_accepted es finished c s h e = let z : ◌≡◌ {A = ℕ} 0 1 = cc in absurd (omega arith)
     fine_accepted es (for_value k) (insert l v) s h e = let z : ◌≡◌ {A = ℕ} 0 1 = cc in absurd (omega arith)
     fine_accepted es (for_value k) (insert_key l) s h e = let z : ◌≡◌ {A = ℕ} 0 1 = cc in absurd (omega arith)
     fine_accepted es (for_value k) (insert_value v) s h e = (took es k v s h e, tt)
     fine_accepted es (for_value k) finish s h e = let z : ◌≡◌ {A = ℕ} 0 1 = cc in absurd (omega arith)
     fine_accepted es for_key (insert k v) s h e =
-        let p = first_none (key_refusal es k) (entry_refusal rule bytes es (record { key = k; value = v }) room) e in
+        let p = first_none (key_refusal es k) (entry_refusal means es (record { key = k; value = v }) room) e in
         (took es k v s (key_accepted es k p.0) p.1, tt)
     fine_accepted es for_key (insert_key k) s h e = (s, key_accepted es k e)
     fine_accepted es for_key (insert_value v) s h e = let z : ◌≡◌ {A = ℕ} 0 1 = cc in absurd (omega arith)
     fine_accepted es for_key finish s h e = (s, tt)
 
-    fine_called : (w : Written V) (c : Call V) → Fine w → Fine (called rule bytes room w c)
-    fine_called w c f = by (refusal rule bytes w c room) refl
+    fine_called : (w : Written V) (c : Call V) → Fine w → Fine (called means room w c)
+    fine_called w c f = by (refusal means w c room) refl
       where
-        by : (r : Option Fault) → refusal rule bytes w c room ≡ r → Fine (elim r [ None ↦ accepted w c | Some g ↦ w ])
+        by : (r : Option Fault) → refusal means w c room ≡ r → Fine (elim r [ None ↦ accepted w c | Some g ↦ w ])
         by None e = fine_accepted w.taken w.waits c f.0 f.1 e
         by (Some g) e = f
 
-    fine_all : (w : Written V) (cs : List (Call V)) → Fine w → Fine (called_all rule bytes room w cs)
+    fine_all : (w : Written V) (cs : List (Call V)) → Fine w → Fine (called_all means room w cs)
     fine_all w [] f = f
-    fine_all w (c ∷ cs) f = fine_all (called rule bytes room w c) cs (fine_called w c f)
+    fine_all w (c ∷ cs) f = fine_all (called means room w c) cs (fine_called w c f)
 
     -- whatever the calls, the taken entries are sound
-    pub taken_sound : (cs : List (Call V)) → Sound rule (called_all rule bytes room new cs).taken
+    pub taken_sound : (cs : List (Call V)) → Sound means.rule (called_all means room new cs).taken
     taken_sound cs = (fine_all new cs (record { rises = refl; short = refl; allowed = refl }, tt)).0

@@ -3,8 +3,8 @@ use Rattle.std.proofs.Common.{◌≡◌, ℕ, zero, suc, ◌<◌, ◌≤◌, tru
 use Rattle.std.proofs.lemmas.List.{length-replicate}
 use Rattle.std.specs.List.{slice_get}
 use Rattle.format.specs.declared.Cursor.{Cursor}
-use Rattle.format.specs.Codecs.{allowed_after, Allowed, most, ReadsBack, Short, Within, value_at}
-use Rattle.format.specs.Void.{void_rule, void_bytes, void_opens, void_steps}
+use Rattle.format.specs.Codecs.{Allowed, most, allowed_after, ReadsBack, Short, Within, value_at}
+use Rattle.format.specs.Void.{void_meaning, void_rule, void_opens, void_steps}
 
 -- every list is allowed
 pub void_allowed : (before vs : List (Unit {0})) → allowed_after void_rule before vs ≡ true
@@ -20,14 +20,14 @@ nth_here [] i h = absurd (omega arith)
 nth_here (v ∷ vs) zero h = refl
 nth_here (v ∷ vs) (suc i) h = nth_here vs i (omega arith)
 
-pub void_back : ReadsBack void_rule void_bytes void_opens void_steps
+pub void_back : ReadsBack void_meaning
 void_back vs rest a h = record {
   cursor = record { next = 0; last = 0; left = 0 };
   opened = refl;
   values = λ i l. value_here (record { next = 0; last = 0; left = 0 }) rest i ∙ nth_here vs i l;
 }
 
-pub void_short : Short void_rule void_bytes
+pub void_short : Short void_meaning
 void_short vs a h = omega arith
 
 pub void_within : Within void_opens

@@ -1,7 +1,8 @@
 -- An automaton reads a key byte by byte; three are given: one that accepts every key, a prefix, and a table of states.
 use Rattle.std.specs.Prelude.{◌≡◌, ℕ, zero, suc, ◌+◌, ◌*◌, ◌/◌, ◌%◌, ◌<◌, Bool, true, false, cond, not, ◌&&◌, ◌||◌, leb as at_most, List, [], ◌∷◌, length, Some, None, Option, ◌==◌, nat_lt, slice_index}
 use Rattle.format.specs.Keys.{longest}
-use Rattle.format.specs.Faults.{Fault, fault, call, table}
+use Rattle.format.specs.declared.fault.Fault.{Fault}
+use Rattle.format.specs.Faults.{fault, call, table}
 
 pub record Machine : Type 0 where
   pub start : ℕ

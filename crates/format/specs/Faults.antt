@@ -1,26 +1,32 @@
 -- A fault tells which layer found it, its number, its place, and in a merge the run.
 use Rattle.std.specs.Prelude.{ℕ, Some, None, Ok, Err, Option, Result}
+use Rattle.format.specs.declared.fault.Fault.{Fault}
+use Rattle.format.specs.declared.fault.Layer.{Layer}
+use Rattle.format.specs.declared.fault.Layer.TheVariants as layer
 
-pub data Layer : Type 0 where
-  number : Layer
-  codec : Layer
-  block : Layer
-  table : Layer
-  call : Layer
+-- the layers
+abbrev pub number : Layer
+number = layer.Number
 
-pub record Fault : Type 0 where
-  pub layer : Layer
-  pub code : ℕ
-  pub place : ℕ
-  pub run : Option ℕ
+abbrev pub codec : Layer
+codec = layer.Codec
+
+abbrev pub block : Layer
+block = layer.Block
+
+abbrev pub table : Layer
+table = layer.Table
+
+abbrev pub call : Layer
+call = layer.Call
 
 -- a fault outside a merge
 abbrev pub fault : Layer → ℕ → ℕ → Fault
-fault layer code place = record { layer = layer; code = code; place = place; run = None }
+fault layer number place = record { layer = layer; number = number; place = place; run = None }
 
 -- the same fault, in a run of a merge
 abbrev pub in_run : ℕ → Fault → Fault
-in_run i f = record { layer = f.layer; code = f.code; place = f.place; run = Some i }
+in_run i f = record { layer = f.layer; number = f.number; place = f.place; run = Some i }
 
 -- an answer by what its fault tells
 abbrev pub told : {A E : Type 0} → (E → Fault) → Result A E → Result A Fault

@@ -1,11 +1,11 @@
 -- A merge writes the united keys of up to sixteen runs with their joined values as one sstable.
-use Rattle.std.specs.Prelude.{ℕ, suc, ◌+◌, Bool, cond, List, [], ◌∷◌, length, Some, None, Ok, Err, Option, Result}
+use Rattle.std.specs.Prelude.{ℕ, suc, ◌+◌, cond, List, [], ◌∷◌, length, Some, None, Ok, Err, Option, Result}
 use Rattle.std.specs.List.{slice_get}
-use Rattle.format.specs.declared.Cursor.{Cursor}
 use Rattle.format.specs.declared.Run.{Run}
 use Rattle.format.specs.Keys.{below, same}
-use Rattle.format.specs.Faults.{Fault, fault, call, in_run}
-use Rattle.format.specs.Codecs.{Opened, Stepped}
+use Rattle.format.specs.declared.fault.Fault.{Fault}
+use Rattle.format.specs.Faults.{fault, call, in_run}
+use Rattle.format.specs.Codecs.{Meaning}
 use Rattle.format.specs.Tables.{Entry}
 use Rattle.format.specs.Reading.{Reading, Ending, end, fails, read_area}
 use Rattle.format.specs.Writing.{Written, insert, finish, new, last_key, accepted, refusal, first, Made, inserted, further}
@@ -81,10 +81,10 @@ module _ {V : Type 0} (join : V → V → Option V) where
   abbrev pub joined : Written V → List ℕ → List (Reading V) → Result (Option V) Fault
   joined w k rs = join_from (in_run (lowest_run k (entries_of rs)) (join_refusal w)) k 0 None rs
 
-module _ {V : Type 0} (rule : List V → V → Bool) (bytes : List V → List ℕ) (join : V → V → Option V) where
+module _ {V : Type 0} (means : Meaning V) (join : V → V → Option V) where
   -- the finish, which belongs to no run
   abbrev pub merge_end : ℕ → Written V → Merged V
-  merge_end room w = elim (refusal rule bytes w finish room) [ None ↦ record { left = accepted w finish; answer = Ok tt } | Some f ↦ stopped_at w f ]
+  merge_end room w = elim (refusal means w finish room) [ None ↦ record { left = accepted w finish; answer = Ok tt } | Some f ↦ stopped_at w f ]
 
   -- what a merge makes of the united keys that are still to come, where a writer has taken those before
   abbrev pub merge_keys : ℕ → List (Reading V) → Written V → List (List ℕ) → Merged V
@@ -94,7 +94,7 @@ module _ {V : Type 0} (rule : List V → V → Bool) (bytes : List V → List �
         | Err f ↦ stopped_at w f
         | Ok o ↦ elim o [
           | None ↦ merge_keys room rs w ks
-          | Some v ↦ elim (refusal rule bytes w (insert k v) room) [
+          | Some v ↦ elim (refusal means w (insert k v) room) [
             | Some f ↦ stopped_at w (in_run (lowest_run k (entries_of rs)) f)
             | None ↦ merge_keys room rs (accepted w (insert k v)) ks
           ]
@@ -110,19 +110,19 @@ module _ {V : Type 0} (rule : List V → V → Bool) (bytes : List V → List �
   joins_end room runs m =
       elim (slice_get (united_keys runs) (length (united join runs))) [
         | Some k ↦ record { left = m.left; stop = first m.stop (Some (join_refusal m.left)) }
-        | None ↦ further rule bytes room m finish
+        | None ↦ further means room m finish
       ]
 
   -- the merge of runs without faults: what a new writer makes of the united keys with their joined values, up to the
   -- first refusal of a join or of the writer
   abbrev pub merge_entries : ℕ → List (List (Entry V)) → Merged V
-  merge_entries room runs = merged_as runs (joins_end room runs (inserted rule bytes room (united join runs)))
+  merge_entries room runs = merged_as runs (joins_end room runs (inserted means room (united join runs)))
 
-module _ {V : Type 0} (opens : List ℕ → Opened) (steps : Cursor → List ℕ → Stepped V) where
+module _ {V : Type 0} (means : Meaning V) where
   -- the readings of the runs, each from its start
   abbrev pub read_runs : List ℕ → List Run → List (Reading V)
   read_runs buffer [] = []
-  read_runs buffer (r ∷ rs) = read_area opens steps (area_of buffer r) ∷ read_runs buffer rs
+  read_runs buffer (r ∷ rs) = read_area means (area_of buffer r) ∷ read_runs buffer rs
 
 -- the runs with their taken counts
 abbrev pub with_taken : List Run → List ℕ → List Run
@@ -136,16 +136,16 @@ module _ {V : Type 0} where
   taken_counts w [] = []
   taken_counts w (es ∷ rest) = taken_of w es ∷ taken_counts w rest
 
-module _ {V : Type 0} (rule : List V → V → Bool) (bytes : List V → List ℕ) (opens : List ℕ → Opened) (steps : Cursor → List ℕ → Stepped V) (join : V → V → Option V) where
+module _ {V : Type 0} (means : Meaning V) (join : V → V → Option V) where
   -- a merge of runs in a buffer, on an output of so many bytes
   abbrev pub merge : ℕ → List ℕ → List Run → Merged V
   merge room buffer rs =
-      elim (runs_refusal buffer rs) [ Some f ↦ stopped_at new f | None ↦ merge_readings rule bytes join room (read_runs opens steps buffer rs) ]
+      elim (runs_refusal buffer rs) [ Some f ↦ stopped_at new f | None ↦ merge_readings means join room (read_runs means buffer rs) ]
 
   -- the table of runs after a merge: refused runs stay as they are
   abbrev pub runs_after : ℕ → List ℕ → List Run → List Run
   runs_after room buffer rs =
       elim (runs_refusal buffer rs) [
         | Some f ↦ rs
-        | None ↦ with_taken rs (taken_counts (merge room buffer rs).left (entries_of (read_runs opens steps buffer rs)))
+        | None ↦ with_taken rs (taken_counts (merge room buffer rs).left (entries_of (read_runs means buffer rs)))
       ]

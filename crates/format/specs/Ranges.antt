@@ -1,10 +1,10 @@
 -- The codec of ranges that join: each starts where the one before in its block ends. The bytes of n ranges are their n + 1 edges.
-use Rattle.std.specs.Prelude.{ℕ, ◌+◌, ◌-◌, ◌^◌, Bool, true, cond, ◌&&◌, leb as at_most, List, [], ◌∷◌, drop, Some, None, Ok, Err, ◌==◌, nat_lt}
+use Rattle.std.specs.Prelude.{ℕ, ◌+◌, ◌-◌, ◌^◌, Bool, true, cond, ◌&&◌, leb as at_most, List, [], ◌∷◌, drop, Ok, ◌==◌, nat_lt}
 use Rattle.format.specs.declared.Cursor.{Cursor}
 use Rattle.format.specs.declared.Range.{Range}
 use Rattle.format.specs.Numbers.{Number, read_leb}
-use Rattle.format.specs.Codecs.{no_number, Opened, Stepped}
-use Rattle.format.specs.Sums.{counted, rise, whole, valued}
+use Rattle.format.specs.Codecs.{Meaning, meant, Opened, Stepped}
+use Rattle.format.specs.Sums.{counted, on_number, rise, whole, valued}
 
 -- where the last of some ranges ends, which come after one that ends at a place
 abbrev pub end_or : ℕ → List Range → ℕ
@@ -32,16 +32,17 @@ abbrev pub range_bytes : List Range → List ℕ
 range_bytes rs = counted (edges rs)
 
 abbrev pub range_started : List ℕ → ℕ → ℕ → Number → Opened
-range_started part n count None = Err no_number
-range_started part n count (Some p) = whole (record { next = n + p.0; last = p.1; left = count - 1 }) part
+range_started part n count r = on_number (λ m start. whole (record { next = n + m; last = start; left = count - 1 }) part) r
 
 -- of a count of 0 nothing follows; else the first start, and so a count of 1 has a start and no range
 abbrev pub range_counted : List ℕ → Number → Opened
-range_counted part None = Err no_number
-range_counted part (Some p) =
-    cond (p.1 == 0)
-    (Ok (record { next = p.0; last = 0; left = 0 }, p.0))
-    (range_started part p.0 p.1 (read_leb (drop p.0 part)))
+range_counted part r =
+    on_number
+    (λ n count.
+    cond (count == 0)
+    (Ok (record { next = n; last = 0; left = 0 }, n))
+    (range_started part n count (read_leb (drop n part))))
+    r
 
 abbrev pub range_opens : List ℕ → Opened
 range_opens part = range_counted part (read_leb part)
@@ -58,3 +59,6 @@ ranges_from start (e ∷ es) = record { start = start; end = e } ∷ ranges_from
 abbrev pub ranges_of : List ℕ → List Range
 ranges_of [] = []
 ranges_of (e ∷ es) = ranges_from e es
+
+abbrev pub range_meaning : Meaning Range
+range_meaning = meant range_rule range_bytes range_opens range_steps

@@ -3,8 +3,9 @@ use Rattle.std.specs.Prelude.{ℕ, zero, suc, ◌+◌, ◌-◌, ◌*◌, cond, L
 use Rattle.format.specs.declared.Cursor.{Cursor}
 use Rattle.format.specs.Keys.{longest, follows}
 use Rattle.format.specs.Headers.{Header, read_header}
-use Rattle.format.specs.Faults.{Fault, fault, block, call, bad_number}
-use Rattle.format.specs.Codecs.{flaw_at, Opened, Stepped}
+use Rattle.format.specs.declared.fault.Fault.{Fault}
+use Rattle.format.specs.Faults.{fault, block, call, bad_number}
+use Rattle.format.specs.Codecs.{Meaning, flaw_at, Opened, Stepped}
 use Rattle.format.specs.Tables.{Entry}
 
 -- Where a reading stands between two entries.
@@ -142,10 +143,10 @@ module _ {V : Type 0} where
   suffixed p base (Ok s) value = keyed p s (key_with p.next p.last base s) value
   suffixed p base (Err f) value = faulted f
 
-module _ {V : Type 0} (opens : List ℕ → Opened) (steps : Cursor → List ℕ → Stepped V) where
+module _ {V : Type 0} (means : Meaning V) where
   -- the entry at the next header; base is the key of which it may keep bytes, which is empty at a block's first entry
   abbrev pub entry_at : List ℕ → Position → List ℕ → Step V
-  entry_at area p base = suffixed p base (suffix_at area p.next p.finish) (steps p.cursor (content area p.start p.finish))
+  entry_at area p base = suffixed p base (suffix_at area p.next p.finish) (means.steps p.cursor (content area p.start p.finish))
 
   -- the first entry of a block whose values are opened; a block without entries is the end
   abbrev pub opened : List ℕ → ℕ → ℕ → Position → Opened → Step V
@@ -157,7 +158,7 @@ module _ {V : Type 0} (opens : List ℕ → Opened) (steps : Cursor → List ℕ
 
   -- the first entry of the block at a border, if there is one
   abbrev pub loaded : List ℕ → ℕ → Position → Result (Option ℕ) Fault → Step V
-  loaded area start p (Ok (Some finish)) = opened area start finish p (opens (content area start finish))
+  loaded area start p (Ok (Some finish)) = opened area start finish p (means.opens (content area start finish))
   loaded area start p (Ok None) = ended
   loaded area start p (Err f) = faulted f
 
@@ -193,12 +194,12 @@ module _ {V : Type 0} where
   abbrev pub behind : Entry V → Reading V → Reading V
   behind e r = record { entries = e ∷ r.entries; ending = r.ending }
 
-module _ {V : Type 0} (opens : List ℕ → Opened) (steps : Cursor → List ℕ → Stepped V) where
+module _ {V : Type 0} (means : Meaning V) where
   -- the reading from a position, in at most so many entries
   abbrev pub read_in : ℕ → List ℕ → Standing → Reading V
   read_in zero area s = nothing end
   read_in (suc most) area s =
-      elim (step opens steps area s) [
+      elim (step means area s) [
         | entry d p ↦ behind (record { key = key_of p.last; value = d.value }) (read_in most area (reading p))
         | ended ↦ nothing end
         | faulted f ↦ nothing (fails f)

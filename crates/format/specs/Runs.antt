@@ -1,7 +1,8 @@
 -- The runs of a merge: sstables that lie in one buffer.
 use Rattle.std.specs.Prelude.{ℕ, suc, ◌-◌, Bool, cond, ◌||◌, List, [], ◌∷◌, length, take, drop, Some, None, Option, nat_lt}
 use Rattle.format.specs.declared.Run.{Run}
-use Rattle.format.specs.Faults.{Fault, fault, call}
+use Rattle.format.specs.declared.fault.Fault.{Fault}
+use Rattle.format.specs.Faults.{fault, call}
 use Rattle.format.specs.Writing.{first}
 
 -- a merge has at most so many runs

@@ -1,9 +1,9 @@
 -- A search looks for a key in one block, and counts the smaller keys.
 use Rattle.std.specs.Prelude.{ℕ, zero, suc, ◌+◌, Bool, false, cond, ◌||◌, List, [], ◌∷◌, length, Ok, Err, Result, ◌==◌, nat_lt}
-use Rattle.format.specs.declared.Cursor.{Cursor}
 use Rattle.format.specs.Keys.{below, same}
-use Rattle.format.specs.Faults.{Fault, fault, call}
-use Rattle.format.specs.Codecs.{Opened, Stepped}
+use Rattle.format.specs.declared.fault.Fault.{Fault}
+use Rattle.format.specs.Faults.{fault, call}
+use Rattle.format.specs.Codecs.{Meaning}
 use Rattle.format.specs.Tables.{Entry}
 use Rattle.format.specs.Reading.{
   Step,
@@ -59,19 +59,19 @@ module _ {V : Type 0} where
   abbrev pub seek : List ℕ → Reading V → Result Hit Fault
   seek key r = seek_from 0 key r.entries r.ending
 
-module _ {V : Type 0} (opens : List ℕ → Opened) (steps : Cursor → List ℕ → Stepped V) where
+module _ {V : Type 0} (means : Meaning V) where
   -- the entries of one block from a step in it on, in at most so many: where the block is used up is the end
   abbrev pub block_in : ℕ → List ℕ → Step V → Reading V
   block_in zero area s = nothing end
   block_in (suc most) area (entry d p) =
-      let later = block_in most area (entry_at opens steps area p (key_of p.last)) in
+      let later = block_in most area (entry_at means area p (key_of p.last)) in
       behind (record { key = key_of p.last; value = d.value }) (cond (p.next == p.finish) (nothing end) later)
   block_in (suc most) area ended = nothing end
   block_in (suc most) area (faulted f) = nothing (fails f)
 
   -- the reading of the one block at a place
   abbrev pub read_block : List ℕ → ℕ → Reading V
-  read_block area place = block_in (length area + 1) area (border opens steps area place (from place))
+  read_block area place = block_in (length area + 1) area (border means area place (from place))
 
   -- the search for a key in the block at a place; 14 where the place is beyond the area
   abbrev pub search_at : List ℕ → ℕ → List ℕ → Result Hit Fault

@@ -1,7 +1,6 @@
 -- Entries that can stand in an sstable: rising keys of at most 512 bytes, and values allowed block by block.
 use Rattle.std.specs.Prelude.{◌≡◌, ℕ, Bool, true, ◌&&◌, leb as at_most, List, [], ◌∷◌, ◌++◌, length, Some, None, Option}
-use Rattle.format.specs.declared.Cursor.{Cursor}
-use Rattle.format.specs.Codecs.{Opened, Stepped, allowed_after}
+use Rattle.format.specs.Codecs.{Meaning, allowed_after}
 use Rattle.format.specs.Keys.{longest, follows}
 use Rattle.format.specs.Reading.{read_area, end}
 use Rattle.format.specs.Tables.{Entry, values, cut, sstable}
@@ -26,6 +25,6 @@ module _ {V : Type 0} where
     pub allowed : allowed_in rule (cut es) ≡ true
 
 -- the reading of the sstable of sound entries, with any bytes behind it, is exactly these entries and then the end
-abbrev pub TableReadsBack : {V : Type 0} → (List V → V → Bool) → (List V → List ℕ) → (List ℕ → Opened) → (Cursor → List ℕ → Stepped V) → Type 0
-TableReadsBack {V} rule bytes opens steps =
-    (es : List (Entry V)) (rest : List ℕ) → Sound rule es → read_area opens steps (sstable bytes es ++ rest) ≡ record { entries = es; ending = end }
+abbrev pub TableReadsBack : {V : Type 0} → Meaning V → Type 0
+TableReadsBack {V} means =
+    (es : List (Entry V)) (rest : List ℕ) → Sound means.rule es → read_area means (sstable means.bytes es ++ rest) ≡ record { entries = es; ending = end }

@@ -2,7 +2,8 @@
 use Rattle.std.specs.Prelude.{ℕ, suc, Bool, cond, ◌&&◌, List, [], ◌∷◌, length, Some, None, Ok, Err, Option, Result, nat_lt}
 use Rattle.std.specs.List.{slice_get}
 use Rattle.format.specs.Keys.{longest}
-use Rattle.format.specs.Faults.{Fault, fault, call}
+use Rattle.format.specs.declared.fault.Fault.{Fault}
+use Rattle.format.specs.Faults.{fault, call}
 use Rattle.format.specs.Tables.{Entry}
 use Rattle.format.specs.Reading.{Reading, Ending, end, fails}
 use Rattle.format.specs.Writing.{first}

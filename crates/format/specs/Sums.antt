@@ -1,5 +1,5 @@
 -- Rising numbers as a count and the rise of each over the one before, the first over 0: both number codecs are made of these.
-use Rattle.std.specs.Prelude.{ℕ, zero, suc, ◌+◌, ◌-◌, ◌^◌, Bool, true, false, cond, List, [], ◌∷◌, ◌++◌, length, drop, Some, None, Ok, Err, Option, Result, ◌==◌, nat_lt}
+use Rattle.std.specs.Prelude.{ℕ, zero, suc, ◌+◌, ◌-◌, ◌^◌, cond, List, [], ◌∷◌, ◌++◌, length, drop, Some, None, Ok, Err, Option, Result, ◌==◌, nat_lt}
 use Rattle.format.specs.declared.Cursor.{Cursor}
 use Rattle.format.specs.Numbers.{leb, Number, read_leb}
 use Rattle.format.specs.Codecs.{Flaw, no_number, overflow, Opened, Stepped}
@@ -13,13 +13,20 @@ rises last (v ∷ vs) = leb (v - last) ++ rises v vs
 abbrev pub counted : List ℕ → List ℕ
 counted vs = leb (length vs) ++ rises 0 vs
 
+-- what follows from how many bytes a number takes and its value; a flaw where the bytes are no number
+abbrev pub on_number : {A : Type 0} → (ℕ → ℕ → Result A Flaw) → Number → Result A Flaw
+on_number f None = Err no_number
+on_number f (Some p) = f p.0 p.1
+
 -- a cursor moves past one rise, and its sum grows by it
 abbrev pub raised : Cursor → Number → Result (Option Cursor) Flaw
-raised c None = Err no_number
-raised c (Some p) =
-    cond (nat_lt (c.last + p.1) (2 ^ 64))
-    (Ok (Some (record { next = c.next + p.0; last = c.last + p.1; left = c.left - 1 })))
-    (Err overflow)
+raised c r =
+    on_number
+    (λ n by.
+    cond (nat_lt (c.last + by) (2 ^ 64))
+    (Ok (Some (record { next = c.next + n; last = c.last + by; left = c.left - 1 })))
+    (Err overflow))
+    r
 
 -- the cursor one number on; nothing where none is left
 abbrev pub rise : Cursor → List ℕ → Result (Option Cursor) Flaw
@@ -37,18 +44,6 @@ with_end c (Err f) = Err f
 -- a cursor whose numbers are all there
 abbrev pub whole : Cursor → List ℕ → Opened
 whole c part = with_end c (end_in c.left c part)
-
--- whether a cursor moves
-abbrev pub moves : Result (Option Cursor) Flaw → Result Bool Flaw
-moves (Ok (Some d)) = Ok true
-moves (Ok None) = Ok false
-moves (Err f) = Err f
-
--- where it then stands: where it does not move it stays
-abbrev pub risen : Cursor → Result (Option Cursor) Flaw → Cursor
-risen c (Ok (Some d)) = d
-risen c (Ok None) = c
-risen c (Err f) = c
 
 -- a step that gives a value made of where the cursor then stands
 abbrev pub valued : {V : Type 0} → (Cursor → V) → Result (Option Cursor) Flaw → Stepped V

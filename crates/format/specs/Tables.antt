@@ -1,5 +1,5 @@
 -- What an sstable of entries is, byte by byte.
-use Rattle.std.specs.Prelude.{ℕ, ◌+◌, ◌-◌, ◌/◌, ◌%◌, cond, List, [], ◌∷◌, ◌++◌, length, drop, nat_lt}
+use Rattle.std.specs.Prelude.{ℕ, ◌+◌, ◌-◌, ◌/◌, ◌%◌, Bool, cond, List, [], ◌∷◌, ◌++◌, length, drop, nat_lt}
 use Rattle.format.specs.Keys.{shared}
 use Rattle.format.specs.Headers.{header}
 
@@ -29,6 +29,11 @@ module _ {V : Type 0} where
   keys [] = []
   keys (e ∷ es) = e.key ∷ keys es
 
+  -- the last key of some entries behind a key
+  abbrev pub last_after : List ℕ → List (Entry V) → List ℕ
+  last_after k [] = k
+  last_after k (e ∷ es) = last_after e.key es
+
   -- the delta part of entries behind a key
   abbrev pub deltas_after : List ℕ → List (Entry V) → List ℕ
   deltas_after before [] = []
@@ -38,14 +43,18 @@ module _ {V : Type 0} where
   abbrev pub deltas : List (Entry V) → List ℕ
   deltas es = deltas_after [] es
 
-  -- the entries of each block, where some stand in the open one: a block ends with the entry that takes its delta part past 4,000 bytes
+  -- an entry closes the block in which some entries stand: it takes the delta part past 4,000 bytes
+  abbrev pub closes : List (Entry V) → Entry V → Bool
+  closes os e = nat_lt block_len (length (deltas (os ++ e ∷ [])))
+
+  -- the entries of each block, where some stand in the open one
   abbrev pub cut_from : List (Entry V) → List (Entry V) → List (List (Entry V))
   cut_from [] [] = []
   cut_from (o ∷ os) [] = (o ∷ os) ∷ []
   cut_from os (e ∷ es) =
       let closed = cut_from [] es in
       let open' = cut_from (os ++ e ∷ []) es in
-      cond (nat_lt block_len (length (deltas (os ++ e ∷ [])))) ((os ++ e ∷ []) ∷ closed) open'
+      cond (closes os e) ((os ++ e ∷ []) ∷ closed) open'
 
   abbrev pub cut : List (Entry V) → List (List (Entry V))
   cut es = cut_from [] es

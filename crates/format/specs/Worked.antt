@@ -4,11 +4,12 @@ use Rattle.format.specs.declared.Range.{Range}
 use Rattle.format.specs.declared.Run.{Run}
 use Rattle.format.specs.Numbers.{leb}
 use Rattle.format.specs.Headers.{header}
-use Rattle.format.specs.Faults.{Fault, codec}
+use Rattle.format.specs.declared.fault.Fault.{Fault}
+use Rattle.format.specs.Faults.{codec}
 use Rattle.format.specs.Tables.{Entry, sstable}
-use Rattle.format.specs.Monotonic.{u64_rule, u64_bytes, u64_opens, u64_steps}
-use Rattle.format.specs.Ranges.{range_bytes, range_opens, range_steps}
-use Rattle.format.specs.Void.{void_bytes, void_opens, void_steps}
+use Rattle.format.specs.Monotonic.{u64_meaning, u64_bytes}
+use Rattle.format.specs.Ranges.{range_meaning, range_bytes}
+use Rattle.format.specs.Void.{void_meaning, void_bytes}
 use Rattle.format.specs.Reading.{read_area, end}
 use Rattle.format.specs.Writing.{output, made, finished, for_key}
 use Rattle.format.specs.Bounds.{unbounded, excluded}
@@ -51,11 +52,11 @@ empty_bytes = 0x02 ∷ 0 ∷ 0 ∷ 0 ∷ 0 ∷ 0 ∷ 0 ∷ 0 ∷ 0 ∷ 0 ∷ []
 
 -- the stream of the first above a
 abbrev pub above_a : Stream ℕ
-above_a = stream (record { lower = excluded a; upper = unbounded; automaton = always }) (read_area u64_opens u64_steps three_bytes)
+above_a = stream (record { lower = excluded a; upper = unbounded; automaton = always }) (read_area u64_meaning three_bytes)
 
 -- the search for a key in the one block of the first
 abbrev pub sought : List ℕ → Result Hit Fault
-sought key = search_at u64_opens u64_steps three_bytes 0 key
+sought key = search_at u64_meaning three_bytes 0 key
 
 -- sstables of one key each: b 1, and a 4
 abbrev pub one_b : List ℕ
@@ -69,10 +70,10 @@ abbrev pub runs : List ℕ → List Run
 runs other = record { start = 0; len = 19; taken = 0 } ∷ record { start = 19; len = length other; taken = 0 } ∷ []
 
 abbrev pub summed : List ℕ → Merged ℕ
-summed other = merge u64_rule u64_bytes u64_opens u64_steps u64_sum 64 (three_bytes ++ other) (runs other)
+summed other = merge u64_meaning u64_sum 64 (three_bytes ++ other) (runs other)
 
 abbrev pub summed_runs : List ℕ → List Run
-summed_runs other = runs_after u64_rule u64_bytes u64_opens u64_steps u64_sum 64 (three_bytes ++ other) (runs other)
+summed_runs other = runs_after u64_meaning u64_sum 64 (three_bytes ++ other) (runs other)
 
 pub record Worked : Type 0 where
   -- numbers
@@ -85,12 +86,12 @@ pub record Worked : Type 0 where
   pub header0_16 : header 0 16 ≡ 1 ∷ 0 ∷ 0x10 ∷ []
   -- sstables, what a new writer makes of the first, and how they read
   pub three_written : sstable u64_bytes three ≡ three_bytes
-  pub three_made : made u64_rule u64_bytes 19 three ≡ record { left = record { taken = three; waits = finished }; stop = None }
-  pub three_read : read_area u64_opens u64_steps three_bytes ≡ record { entries = three; ending = end }
+  pub three_made : made u64_meaning 19 three ≡ record { left = record { taken = three; waits = finished }; stop = None }
+  pub three_read : read_area u64_meaning three_bytes ≡ record { entries = three; ending = end }
   pub ranges_written : sstable range_bytes ranges ≡ ranges_bytes
-  pub ranges_read : read_area range_opens range_steps ranges_bytes ≡ record { entries = ranges; ending = end }
+  pub ranges_read : read_area range_meaning ranges_bytes ≡ record { entries = ranges; ending = end }
   pub empty_written : sstable void_bytes empty ≡ empty_bytes
-  pub empty_read : read_area void_opens void_steps empty_bytes ≡ record { entries = empty; ending = end }
+  pub empty_read : read_area void_meaning empty_bytes ≡ record { entries = empty; ending = end }
   pub none_written : sstable u64_bytes [] ≡ 0 ∷ 0 ∷ 0 ∷ 0 ∷ []
   -- the stream above a: ab 3 with ordinal 1, b 10 with ordinal 2, then nothing
   pub stream0 : answer_at above_a 0 ≡ Ok (Some (1, 3))
@@ -109,12 +110,12 @@ pub record Worked : Type 0 where
   pub sum_answer : (summed one_b).answer ≡ Ok tt
   pub sum_output : output u64_bytes (summed one_b).left
       ≡ 0x0b ∷ 0 ∷ 0 ∷ 0 ∷ 0 ∷ 3 ∷ 3 ∷ 0 ∷ 8 ∷ 0x10 ∷ 0x61 ∷ 0x11 ∷ 0x62 ∷ 0x10 ∷ 0x62 ∷ 0 ∷ 0 ∷ 0 ∷ 0 ∷ []
-  pub sum_read : read_area u64_opens u64_steps (output u64_bytes (summed one_b).left)
+  pub sum_read : read_area u64_meaning (output u64_bytes (summed one_b).left)
       ≡ record { entries = record { key = a; value = 3 } ∷ record { key = ab; value = 3 } ∷ record { key = b; value = 11 } ∷ []; ending = end }
   pub sum_runs : summed_runs one_b
       ≡ record { start = 0; len = 19; taken = 3 } ∷ record { start = 19; len = 13; taken = 1 } ∷ []
   -- summed with a 4 it has a 7, and ab 3 is refused, which the first run has
-  pub fall_answer : (summed one_a).answer ≡ Err (record { layer = codec; code = 3; place = 1; run = Some 0 })
+  pub fall_answer : (summed one_a).answer ≡ Err (record { layer = codec; number = 3; place = 1; run = Some 0 })
   pub fall_left : (summed one_a).left ≡ record { taken = record { key = a; value = 7 } ∷ []; waits = for_key }
   pub fall_runs : summed_runs one_a
       ≡ record { start = 0; len = 19; taken = 1 } ∷ record { start = 19; len = 13; taken = 1 } ∷ []

@@ -1,8 +1,11 @@
 -- A writer: the entries that it has taken, and what it waits for. Its open block and all that it has written follow from these.
-use Rattle.std.specs.Prelude.{◌≡◌, ℕ, ◌+◌, ◌≤◌, Bool, cond, List, [], ◌∷◌, ◌++◌, length, drop, Some, None, Ok, Err, Option, Result, nat_lt}
+use Rattle.format.specs.Codecs.{Meaning}
+use Rattle.std.specs.Prelude.{◌≡◌, ℕ, ◌+◌, ◌≤◌, cond, List, [], ◌∷◌, ◌++◌, length, drop, Some, None, Ok, Err, Option, Result, nat_lt}
 use Rattle.format.specs.Keys.{longest, follows}
-use Rattle.format.specs.Faults.{Fault, fault, codec, call}
-use Rattle.format.specs.Tables.{Entry, block_len, values, deltas, cut_from, blocks, sstable, word}
+use Rattle.format.specs.declared.fault.Fault.{Fault}
+use Rattle.format.specs.Faults.{fault, codec, call}
+use Rattle.format.specs.Tables.{Entry, values, cut_from, blocks, sstable, word}
+pub use Rattle.format.specs.Tables.{closes}
 
 pub data Waiting : Type 0 where
   for_key : Waiting
@@ -43,10 +46,6 @@ module _ {V : Type 0} where
   last_key [] = None
   last_key (e ∷ []) = Some e.key
   last_key (e ∷ f ∷ es) = last_key (f ∷ es)
-
-  -- an entry closes the block in which some entries stand: it takes the delta part past 4,000 bytes
-  abbrev pub closes : List (Entry V) → Entry V → Bool
-  closes os e = nat_lt block_len (length (deltas (os ++ e ∷ [])))
 
   -- the entries behind the last closed block, where some stand in the open one at first
   abbrev pub open_from : List (Entry V) → List (Entry V) → List (Entry V)
@@ -136,11 +135,11 @@ module _ {V : Type 0} (bytes : List V → List ℕ) where
   abbrev pub finish_refusal : List (Entry V) → ℕ → Option Fault
   finish_refusal es room = cond (nat_lt room (length (sstable bytes es))) (refused es 24) None
 
-module _ {V : Type 0} (rule : List V → V → Bool) (bytes : List V → List ℕ) where
+module _ {V : Type 0} (means : Meaning V) where
   -- 3 where the codec's rule does not allow the value in the open block, then 24
   abbrev pub entry_refusal : List (Entry V) → Entry V → ℕ → Option Fault
   entry_refusal es e room =
-      cond (rule (values (open_block es)) e.value) (flush_refusal bytes es e room) (Some (fault codec 3 (length es)))
+      cond (means.rule (values (open_block es)) e.value) (flush_refusal means.bytes es e room) (Some (fault codec 3 (length es)))
 
   -- 23 when finished; 21 where a key waits, 22 where none waits for the value; then 1, 2, 3, 24
   abbrev pub refusal_in : List (Entry V) → Waiting → Call V → ℕ → Option Fault
@@ -152,7 +151,7 @@ module _ {V : Type 0} (rule : List V → V → Bool) (bytes : List V → List �
   refusal_in es for_key (insert k v) room = first (key_refusal es k) (entry_refusal es (record { key = k; value = v }) room)
   refusal_in es for_key (insert_key k) room = key_refusal es k
   refusal_in es for_key (insert_value v) room = refused es 22
-  refusal_in es for_key finish room = finish_refusal bytes es room
+  refusal_in es for_key finish room = finish_refusal means.bytes es room
 
   -- the refusal of a call, if there is one, where the output has so many bytes
   abbrev pub refusal : Written V → Call V → ℕ → Option Fault
@@ -177,12 +176,12 @@ pub record Made (V : Type 0) : Type 0 where
   pub left : Written V
   pub stop : Option Fault
 
-module _ {V : Type 0} (rule : List V → V → Bool) (bytes : List V → List ℕ) where
+module _ {V : Type 0} (means : Meaning V) where
   -- one call after those that made this, unless a refusal stopped it
   abbrev pub further : ℕ → Made V → Call V → Made V
   further room m c =
       elim m.stop [
-        | None ↦ record { left = called rule bytes room m.left c; stop = refusal rule bytes m.left c room }
+        | None ↦ record { left = called means room m.left c; stop = refusal means m.left c room }
         | Some f ↦ m
       ]
 

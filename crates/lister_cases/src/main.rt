@@ -2,43 +2,30 @@
 // the length.
 #![tactic(auto)]
 
-use std::alloc::{AllocError, Global};
-use std::io;
+use anyhow::{Context, Result};
+use std::alloc::Global;
 use std::io::{BufRead, BufReader, Write};
 
-fn nibble(c: u8) -> u8 {
-    match c {
-        b'0'..=b'9' => c - b'0',
-        b'a'..=b'f' => c - b'a' + 10,
-        _ => 0,
-    }
-}
-
 // The bytes of a case.
-fn area_of(heap: Global, hex: &[u8], len: usize) -> Result<Vec<u8>, AllocError> {
-    let mut area = Vec::new(heap);
-    for i in 0..hex.len() / 2 {
-        let high = nibble(hex[2 * i]);
-        area.push(high.wrapping_mul(16).wrapping_add(nibble(hex[2 * i + 1])))?;
-    }
-    for _ in area.len()..len {
-        area.push(0)?;
-    }
+fn area_of(heap: Global, len: &str, digits: &str) -> Result<Vec<u8>> {
+    let mut area = hex::decode(heap, digits)?;
+    let len = len.parse::<usize>()?;
+    area.resize(len.max(area.len()), 0)?;
     Ok(area)
 }
 
-fn run_case(rt: &HostRuntime, line: &str) -> io::Result<()> {
-    let mut words = line.split(' ');
-    let name = words.next().unwrap_or("");
-    let len = words.next().unwrap_or("").parse::<usize>().unwrap_or(0);
-    let hex = words.next().unwrap_or("");
-    let area = area_of(rt.alloc(), hex.as_bytes(), len)?;
+fn run_case(rt: &HostRuntime, line: &str) -> Result<()> {
+    let (name, area) = line.split_once(' ').context("a length is missing")?;
+    let (len, digits) = area.split_once(' ').context("bytes are missing")?;
+    let area = area_of(rt.alloc(), len, digits)?;
     println!(rt; "{name}")?;
     let text = listing::list(rt.alloc(), &area)?;
-    rt.stdout().write_all(&text)
+    rt.stdout().write_all(&text)?;
+    Ok(())
 }
 
-fn main(rt: HostRuntime) -> io::Result<()> {
+// The same loop as in `writer_cases`: three lines are plainer than a crate for them.
+fn main(rt: HostRuntime) -> Result<()> {
     for line in BufReader::new(rt.alloc(), rt.stdin())?.lines(rt.alloc()) {
         run_case(&rt, line?.as_str())?;
     }

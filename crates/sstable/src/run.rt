@@ -1,12 +1,11 @@
 // Calls on a new writer.
-ghost use Rattle.std.specs.Prelude.{◌≡◌, ℕ, List, map, length, is_ok, if◌then◌else◌, MatchResult, OnOk};
-ghost use Rattle.format.specs.Buffers.{written};
-ghost use Rattle.format.specs.Faults.{told};
+ghost use Rattle.std.specs.Prelude.{map, OnOk};
 ghost use Rattle.format.specs.Sound.{TableReadsBack};
-ghost use Rattle.format.specs.Laws.{Writes, ReadsTaken};
-ghost use Rattle.writer.specs.States.{state, next as next_state, writes, answer as answer_of};
-ghost use Rattle.writer.specs.Told.{of_writer};
+ghost use Rattle.format.specs.Laws.{ReadsTaken};
+ghost use Rattle.codec.specs.Meanings.{meaning};
+ghost use Rattle.writer.specs.States.{Steps};
 ghost use Rattle.sstable.specs.Calls.{call_of};
+ghost use Rattle.sstable.specs.Runs.{Runs};
 
 use crate::call::Call;
 use codec::value::Codec;
@@ -20,9 +19,7 @@ fn apply<C: Codec>(
     call: &Call<'_, C::Value>,
     output: &mut [u8],
 ) -> Result<(), WriterFault>
-    ensures answer { told of_writer result ≡ answer_of C.Codec.rule C.Codec.bytes (state C.Codec.list writer.old) (call_of call.now) (length output.old) }
-    ensures after { state C.Codec.list writer.new ≡ (if is_ok result then next_state C.Codec.bytes (state C.Codec.list writer.old) (call_of call.now) else state C.Codec.list writer.old) }
-    ensures output { output.new ≡ (if is_ok result then written output.old writer.old.end (writes C.Codec.bytes (state C.Codec.list writer.old) (call_of call.now)) else output.old) }
+    ensures { Steps (meaning C.Codec) (call_of call.now) writer.old output.old result writer.new output.new }
 {
     match call {
         Call::Insert(key, value) => writer.insert(key, *value, output),
@@ -39,9 +36,9 @@ pub fn run_calls<C: Codec + Drop>(
     calls: &[Call<'_, C::Value>],
     output: &mut [u8],
 ) -> Result<Vec<Result<(), WriterFault>>, AllocError>
-    ensures writing { MatchResult result (λ got. Writes C.Codec.rule C.Codec.bytes output.old (map call_of calls.now) (map (told of_writer) got.items) output.new) (λ _. output.new ≡ output.old) }
-    ensures table { TableReadsBack C.Codec.rule C.Codec.bytes C.Codec.opens C.Codec.steps }
-    ensures reading { OnOk result (ReadsTaken C.Codec.rule C.Codec.bytes C.Codec.opens C.Codec.steps output.old (map call_of calls.now) output.new) }
+    ensures writing { Runs (meaning C.Codec) calls.now output.old result output.new }
+    ensures table { TableReadsBack (meaning C.Codec) }
+    ensures reading { OnOk result (ReadsTaken (meaning C.Codec) output.old (map call_of calls.now) output.new) }
 {
     let mut answers = Vec::with_capacity(heap, calls.len())?;
     let mut writer = Writer::<C>::new(heap)?;

@@ -130,3 +130,27 @@ fn border(rt: HostRuntime) -> Result<(), Fail> {
     assert_eq!(rt; written_after(&rt, rt.alloc(), 385, &mut output)?, 4006);
     Ok(())
 }
+
+fn says(rt: &impl Abort, heap: Global, fault: WriterFault, expected: &str) -> Result<(), Fail> {
+    let message = format!(in heap; "{fault}")?;
+    assert_eq!(rt; message.as_str(), expected);
+    Ok(())
+}
+
+// A refusal says what and where, its codec's refusal too.
+#[test]
+fn messages(rt: HostRuntime) -> Result<(), Fail> {
+    let heap = rt.alloc();
+    says(
+        &rt,
+        heap,
+        WriterFault::KeyOrder { ordinal: 7 },
+        "the key of entry 7 is not above the last one",
+    )?;
+    says(
+        &rt,
+        heap,
+        WriterFault::Codec(CodecFault::Rule { ordinal: 3 }),
+        "the value of entry 3 may not follow those of its block",
+    )
+}

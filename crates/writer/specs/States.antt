@@ -1,50 +1,49 @@
 -- What a writer holds, and what each call makes of it.
-use Rattle.std.specs.Prelude.{◌≡◌, ℕ, ◌+◌, ◌-◌, ◌≤◌, Bool, cond, List, [], ◌∷◌, ◌++◌, length, Some, None, Ok, Err, vec_items, Option, Result, ◌==◌, nat_lt}
-use Rattle.format.specs.Codecs.{takes}
-use Rattle.format.specs.Faults.{Fault, fault, codec, call}
+use Rattle.std.specs.Prelude.{◌≡◌, ℕ, ◌+◌, ◌-◌, ◌≤◌, Bool, true, cond, List, [], ◌∷◌, ◌++◌, length, Some, None, Ok, Err, Option, Result, is_ok, if◌then◌else◌, ◌==◌, nat_lt}
+use Rattle.format.specs.Codecs.{Meaning, takes, write_answer}
+use Rattle.format.specs.Buffers.{written}
+use Rattle.format.specs.declared.fault.Fault.{Fault}
+use Rattle.format.specs.Faults.{told, fault, call}
 use Rattle.format.specs.Keys.{longest, follows}
+use Rattle.format.specs.Reading.{key_of}
 use Rattle.format.specs.Tables.{block_len, word}
 use Rattle.format.specs.Writing.{Call, insert, insert_key, insert_value, finish}
-use Rattle.codec.specs.declared.value.Codec.{Ghosts}
 use Rattle.writer.specs.declared.phase.Phase.{Phase}
 use Rattle.writer.specs.declared.phase.Phase.TheVariants.{WaitsForKey, WaitsForValue, Finished}
 use Rattle.writer.specs.declared.phase.Kind.{Kind}
 use Rattle.writer.specs.declared.phase.Kind.TheVariants.{Insert, InsertKey, InsertValue, Finish}
-use Rattle.writer.specs.declared.writer.Writer.{Writer}
-use Rattle.writer.specs.Parts.{entry, before, block}
+use Rattle.writer.specs.declared.fault.WriterFault.{WriterFault}
+use Rattle.writer.specs.Told.{of_writer}
+use Rattle.writer.specs.Parts.{Kept, behind, entry, before, block}
 
-pub record State (V : Type 0) : Type 0 where
-  pub phase : Phase
-  -- the last taken key, where one was taken
-  pub last : List ℕ
-  -- the key that waits for its value, where one waits
-  pub waiting : List ℕ
-  -- the delta part and the values of the open block
-  pub delta : List ℕ
+-- The open block.
+pub record Block (V : Type 0) : Type 0 where
   pub vals : List V
+  pub delta : List ℕ
+
+-- An sstable that is being written.
+pub record OpenTable (V : Type 0) : Type 0 where
+  -- the last taken key, if one was taken
+  pub last : Option (List ℕ)
+  pub block : Block V
   -- how many bytes are written
   pub end : ℕ
   -- how many entries were taken
   pub ordinal : ℕ
 
-abbrev pub state : {C V : Type 0} {g : Ghosts C V} → (C → List V) → Writer C V g → State V
-state list w = record {
-  phase = w.phase;
-  last = vec_items w.last;
-  waiting = vec_items w.waiting;
-  delta = vec_items w.delta;
-  vals = list w.codec;
-  end = w.end;
-  ordinal = w.ordinal;
-}
+pub record State (V : Type 0) : Type 0 where
+  pub phase : Phase
+  -- the key that waits for its value, where one waits
+  pub waiting : List ℕ
+  pub table : OpenTable V
 
 abbrev pub Answer : Type 0
 Answer = Result (Unit {0}) Fault
 
 -- a test, and a second where the first does not refuse
-abbrev pub then : Answer → Answer → Answer
-then (Ok x) later = later
-then (Err f) later = Err f
+abbrev pub and_then : {A B : Type 0} → Result A Fault → Result B Fault → Result B Fault
+and_then (Ok x) later = later
+and_then (Err f) later = Err f
 
 -- 23 when finished; 21 where a key waits, 22 where none waits for the value
 abbrev pub phase_test : Phase → Kind → ℕ → Answer
@@ -64,82 +63,150 @@ RoomIn WaitsForValue due answer = (due ≤ answer) × (answer ≤ due + 16)
 RoomIn Finished due answer = answer ≡ 0
 
 module _ {V : Type 0} where
+  abbrev pub no_entries : Block V
+  no_entries = record { vals = []; delta = [] }
+
+  abbrev pub nothing_written : OpenTable V
+  nothing_written = record { last = None; block = no_entries; end = 0; ordinal = 0 }
+
   abbrev pub fresh : State V
-  fresh = record { phase = WaitsForKey; last = []; waiting = []; delta = []; vals = []; end = 0; ordinal = 0 }
+  fresh = record { phase = WaitsForKey; waiting = []; table = nothing_written }
 
-  abbrev pub last_key : State V → Option (List ℕ)
-  last_key s = cond (s.ordinal == 0) None (Some s.last)
+  -- the last taken key; none before the first
+  abbrev pub last_key : OpenTable V → Option (List ℕ)
+  last_key t = cond (t.ordinal == 0) None (Some (key_of t.last))
 
-  -- 1 where the key is too long, 2 where it is not above the last taken one
-  abbrev pub key_test : State V → List ℕ → Answer
-  key_test s k =
-      cond (nat_lt longest (length k)) (Err (fault call 1 s.ordinal))
-      (cond (follows (last_key s) k) (Ok tt) (Err (fault call 2 s.ordinal)))
+  -- the key, or 1 where it is too long, 2 where it is not above the last taken one
+  abbrev pub key_test : OpenTable V → List ℕ → Result (List ℕ) Fault
+  key_test t k =
+      cond (nat_lt longest (length k)) (Err (fault call 1 t.ordinal))
+      (cond (follows (last_key t) k) (Ok k) (Err (fault call 2 t.ordinal)))
 
-  -- 24 where bytes that are due do not fit behind those written
-  abbrev pub room_test : State V → List ℕ → ℕ → Answer
-  room_test s due room = cond (nat_lt (room - s.end) (length due)) (Err (fault call 24 s.ordinal)) (Ok tt)
+  -- 24 where so many bytes that are due do not fit behind those written
+  abbrev pub room_test : OpenTable V → ℕ → ℕ → Answer
+  room_test t due room = cond (nat_lt (room - t.end) due) (Err (fault call 24 t.ordinal)) (Ok tt)
 
-  -- the delta part with one key more
-  abbrev pub grown : State V → List ℕ → List ℕ
-  grown s k = s.delta ++ entry (before s.delta s.last) k
+  -- so many bytes that are due fit an output of so many bytes, behind those written
+  abbrev pub HasRoom : OpenTable V → ℕ → ℕ → Type 0
+  HasRoom t due room = due ≤ room - t.end
+
+  -- a rule allows a value behind those of a block, and the block has not too many
+  abbrev pub Allows : (List V → V → Bool) → Block V → V → Type 0
+  Allows rule b v = takes rule b.vals v ≡ true
+
+  -- a key behind the last one: it keeps nothing at a block's first entry
+  abbrev pub behind_last : Block V → List ℕ → List ℕ → Kept
+  behind_last b last k = behind (before b.delta last) k
+
+  -- the block with one entry more
+  abbrev pub pushed : Block V → Kept → V → Block V
+  pushed b k v = record { vals = b.vals ++ v ∷ []; delta = b.delta ++ entry k }
+
+  -- the delta part has more than 4,000 bytes
+  abbrev pub is_long : Block V → Bool
+  is_long b = nat_lt block_len (length b.delta)
+
+  abbrev pub kept_of : OpenTable V → List ℕ → Kept
+  kept_of t k = behind_last t.block (key_of t.last) k
+
+  -- its open block with one entry more
+  abbrev pub grown : OpenTable V → List ℕ → V → Block V
+  grown t k v = pushed t.block (kept_of t k) v
 
   -- a key was taken that waits for its value
   abbrev pub holds : State V → List ℕ → State V
-  holds s k = record { phase = WaitsForValue; last = s.last; waiting = k; delta = s.delta; vals = s.vals; end = s.end; ordinal = s.ordinal }
+  holds s k = record { phase = WaitsForValue; waiting = k; table = s.table }
+
+  -- no key waits, and so it goes on
+  abbrev pub goes_on : Phase → OpenTable V → State V
+  goes_on phase t = record { phase = phase; waiting = []; table = t }
 
 module _ {V : Type 0} (bytes : List V → List ℕ) where
-  -- what an entry flushes: the block, if its delta part then has more than 4,000 bytes
-  abbrev pub flushed : State V → List ℕ → V → List ℕ
-  flushed s k v = cond (nat_lt block_len (length (grown s k))) (block (bytes (s.vals ++ v ∷ [])) (grown s k)) []
+  abbrev pub block_of : Block V → List ℕ
+  block_of b = block (bytes b.vals) b.delta
 
-  -- the open block, if it has entries
-  abbrev pub rest : List V → List ℕ → List ℕ
-  rest vs [] = []
-  rest vs (d ∷ ds) = block (bytes vs) (d ∷ ds)
+  -- a long block is flushed, and any other stays open
+  abbrev pub flushed : Block V → List ℕ
+  flushed b = cond (is_long b) (block_of b) []
+
+  -- what an entry flushes
+  abbrev pub flushed_by : OpenTable V → List ℕ → V → List ℕ
+  flushed_by t k v = flushed (grown t k v)
+
+  abbrev pub rest_in : List V → List ℕ → List ℕ
+  rest_in vs [] = []
+  rest_in vs (d ∷ ds) = block (bytes vs) (d ∷ ds)
+
+  -- the block, if it has entries
+  abbrev pub rest : Block V → List ℕ
+  rest b = rest_in b.vals b.delta
 
   -- what a finish writes
-  abbrev pub ending : State V → List ℕ
-  ending s = rest s.vals s.delta ++ word 0
+  abbrev pub ending : OpenTable V → List ℕ
+  ending t = rest t.block ++ word 0
 
   -- an entry was taken
-  abbrev pub took_entry : State V → List ℕ → V → State V
-  took_entry s k v = cond (nat_lt block_len (length (grown s k)))
-      (record { phase = WaitsForKey; last = k; waiting = []; delta = []; vals = []; end = s.end + length (block (bytes (s.vals ++ v ∷ [])) (grown s k)); ordinal = s.ordinal + 1 })
-      (record { phase = WaitsForKey; last = k; waiting = []; delta = grown s k; vals = s.vals ++ v ∷ []; end = s.end; ordinal = s.ordinal + 1 })
+  abbrev pub took_entry : OpenTable V → List ℕ → V → OpenTable V
+  took_entry t k v =
+      record {
+        last = Some k;
+        block = cond (is_long (grown t k v)) no_entries (grown t k v);
+        end = t.end + length (flushed_by t k v);
+        ordinal = t.ordinal + 1;
+      }
 
-  abbrev pub ended : State V → State V
-  ended s = record { phase = Finished; last = s.last; waiting = []; delta = []; vals = []; end = s.end + length (ending s); ordinal = s.ordinal }
+  abbrev pub ended : OpenTable V → OpenTable V
+  ended t = record { last = t.last; block = no_entries; end = t.end + length (ending t); ordinal = t.ordinal }
 
   -- what an accepted call makes of a writer
   abbrev pub next : State V → Call V → State V
-  next s (insert k v) = took_entry s k v
+  next s (insert k v) = goes_on WaitsForKey (took_entry s.table k v)
   next s (insert_key k) = holds s k
-  next s (insert_value v) = took_entry s s.waiting v
-  next s finish = ended s
+  next s (insert_value v) = goes_on WaitsForKey (took_entry s.table s.waiting v)
+  next s finish = goes_on Finished (ended s.table)
 
   -- what an accepted call writes
-  abbrev pub writes : State V → Call V → List ℕ
-  writes s (insert k v) = flushed s k v
-  writes s (insert_key k) = []
-  writes s (insert_value v) = flushed s s.waiting v
-  writes s finish = ending s
+  abbrev pub written_by : State V → Call V → List ℕ
+  written_by s (insert k v) = flushed_by s.table k v
+  written_by s (insert_key k) = []
+  written_by s (insert_value v) = flushed_by s.table s.waiting v
+  written_by s finish = ending s.table
 
   -- an answer to the question for room: what a finish writes or at most 16 more; 0 when finished
   abbrev pub Room : State V → ℕ → Type 0
-  Room s answer = RoomIn s.phase (length (ending s)) answer
+  Room s answer = RoomIn s.phase (length (ending s.table)) answer
 
-module _ {V : Type 0} (rule : List V → V → Bool) (bytes : List V → List ℕ) where
+module _ {V : Type 0} (means : Meaning V) where
   -- 3 where the codec does not take the value
-  abbrev pub value_test : State V → V → Answer
-  value_test s v = cond (takes rule s.vals v) (Ok tt) (Err (fault codec 3 s.ordinal))
+  abbrev pub value_test : OpenTable V → V → Answer
+  value_test t v = write_answer means.rule t.block.vals v t.ordinal
 
-  abbrev pub entry_test : State V → List ℕ → V → ℕ → Answer
-  entry_test s k v room = then (value_test s v) (room_test s (flushed bytes s k v) room)
+  abbrev pub entry_test : OpenTable V → Kept → V → ℕ → Answer
+  entry_test t k v room = and_then (value_test t v) (room_test t (length (flushed means.bytes (pushed t.block k v))) room)
+
+  abbrev pub finish_test : OpenTable V → ℕ → Answer
+  finish_test t room = room_test t (length (ending means.bytes t)) room
 
   -- what a call answers, where the output has so many bytes
   abbrev pub answer : State V → Call V → ℕ → Answer
-  answer s (insert k v) room = then (phase_test s.phase Insert s.ordinal) (then (key_test s k) (entry_test s k v room))
-  answer s (insert_key k) room = then (phase_test s.phase InsertKey s.ordinal) (key_test s k)
-  answer s (insert_value v) room = then (phase_test s.phase InsertValue s.ordinal) (entry_test s s.waiting v room)
-  answer s finish room = then (phase_test s.phase Finish s.ordinal) (room_test s (ending bytes s) room)
+  answer s (insert k v) room = and_then (phase_test s.phase Insert s.table.ordinal) (and_then (key_test s.table k) (entry_test s.table (kept_of s.table k) v room))
+  answer s (insert_key k) room = and_then (phase_test s.phase InsertKey s.table.ordinal) (and_then (key_test s.table k) (Ok tt))
+  answer s (insert_value v) room = and_then (phase_test s.phase InsertValue s.table.ordinal) (entry_test s.table (kept_of s.table s.waiting) v room)
+  answer s finish room = and_then (phase_test s.phase Finish s.table.ordinal) (finish_test s.table room)
+
+-- What a call on a writer answers, and what it leaves in the writer and in the output: a refusal changes nothing.
+pub record Steps {V : Type 0} (means : Meaning V) (c : Call V) (old : State V) (from : List ℕ) (got : Result (Unit {0}) WriterFault) (new : State V) (to : List ℕ) : Type 0 where
+  pub answers : told of_writer got ≡ answer means old c (length from)
+  pub leaves : new ≡ (if is_ok got then next means.bytes old c else old)
+  pub writes : to ≡ (if is_ok got then written from old.table.end (written_by means.bytes old c) else from)
+
+-- What a table answers to a key that may come next and a value, and what it then holds and has written.
+pub record Inserts {V : Type 0} (means : Meaning V) (k : List ℕ) (v : V) (old : OpenTable V) (from : List ℕ) (got : Result (Unit {0}) WriterFault) (new : OpenTable V) (to : List ℕ) : Type 0 where
+  pub answers : told of_writer got ≡ entry_test means old (kept_of old k) v (length from)
+  pub leaves : new ≡ (if is_ok got then took_entry means.bytes old k v else old)
+  pub writes : to ≡ (if is_ok got then written from old.end (flushed_by means.bytes old k v) else from)
+
+-- An entry may be taken: its value is allowed, and what it flushes fits an output of so many bytes.
+pub record Fits {V : Type 0} (means : Meaning V) (t : OpenTable V) (k : Kept) (v : V) (room : ℕ) : Type 0 where
+  pub allowed : Allows means.rule t.block v
+  pub room_is : HasRoom t (length (flushed means.bytes (pushed t.block k v))) room

@@ -1,6 +1,7 @@
 -- What the faults of a writer tell: layer, number and ordinal.
 use Rattle.codec.specs.Told.{of_codec}
-use Rattle.format.specs.Faults.{Fault, fault, call}
+use Rattle.format.specs.declared.fault.Fault.{Fault}
+use Rattle.format.specs.Faults.{fault, call}
 use Rattle.writer.specs.declared.fault.WriterFault.{WriterFault}
 use Rattle.writer.specs.declared.fault.WriterFault.TheVariants as writer_fault
 

@@ -2,12 +2,11 @@
 #![tactic(auto)]
 
 mod calls;
-mod checks;
 pub mod fault;
-mod flush;
 pub mod keys;
 mod limits;
+mod open_block;
+mod open_table;
 pub mod phase;
 mod questions;
-mod telling;
 pub mod writer;

@@ -7,7 +7,8 @@ pub enum Phase {
     Finished,
 }
 
-#[derive(Clone, Copy)]
+// Not the calls themselves: one match on what the writer waits for and on this says which call is refused.
+#[derive(Clone, Copy, PartialEq, Eq, Debug)]
 pub(crate) enum Kind {
     Insert,
     InsertKey,

@@ -1,53 +1,41 @@
 // Keys and values from text.
-use codec::range::RangeValues;
-use codec::u64_monotonic::U64MonotonicValues;
-use codec::value::Codec;
-use codec::void::VoidValues;
+use crate::case_error::CaseError;
 use format::Range;
-use std::alloc::{AllocError, Global};
+use hex::FromHexError;
+use std::alloc::Global;
 
-pub trait Parse: Codec {
-    fn value(text: &str) -> Self::Value;
+// A value of a codec. Not `FromStr`: u64 has one with another error, and none can be given here to `Range` and ().
+pub(crate) trait Parse: Sized {
+    fn parse(text: &str) -> Result<Self, CaseError>;
 }
 
-fn number(text: &str) -> u64 {
-    text.parse::<u64>().unwrap_or(0)
-}
-
-impl Parse for U64MonotonicValues {
-    fn value(text: &str) -> u64 {
-        number(text)
+impl Parse for u64 {
+    fn parse(text: &str) -> Result<u64, CaseError> {
+        Ok(text.parse::<u64>()?)
     }
 }
 
-impl Parse for RangeValues {
-    fn value(text: &str) -> Range {
-        let mut parts = text.split('-');
-        let start = number(parts.next().unwrap_or(""));
-        let end = number(parts.next().unwrap_or(""));
-        Range { start, end }
+// The start and the end of a range are parted by -.
+impl Parse for Range {
+    fn parse(text: &str) -> Result<Range, CaseError> {
+        let (start, end) = text.split_once('-').ok_or(CaseError::NoEntry)?;
+        Ok(Range {
+            start: start.parse()?,
+            end: end.parse()?,
+        })
     }
 }
 
-impl Parse for VoidValues {
-    fn value(_: &str) -> () {}
-}
-
-fn nibble(c: u8) -> u8 {
-    match c {
-        b'0'..=b'9' => c - b'0',
-        b'a'..=b'f' => c - b'a' + 10,
-        _ => 0,
+impl Parse for () {
+    fn parse(_: &str) -> Result<(), CaseError> {
+        Ok(())
     }
 }
 
 // The bytes of a key; those of the empty one are written -.
-pub(crate) fn key_of(heap: Global, text: &str) -> Result<Vec<u8>, AllocError> {
-    let mut key = Vec::new(heap);
-    let hex = text.as_bytes();
-    for i in 0..hex.len() / 2 {
-        let high = nibble(hex[2 * i]);
-        key.push(high.wrapping_mul(16).wrapping_add(nibble(hex[2 * i + 1])))?;
+pub(crate) fn key_of(heap: Global, digits: &str) -> Result<Vec<u8>, FromHexError> {
+    match digits {
+        "-" => Ok(Vec::new(heap)),
+        digits => hex::decode(heap, digits),
     }
-    Ok(key)
 }

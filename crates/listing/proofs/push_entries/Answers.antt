@@ -1,38 +1,56 @@
-use Rattle.std.proofs.Common.{ℕ, ◌++◌, Ok, vec_items, Option, sym, refl, ap, ◌∙◌, arith}
-use Rattle.format.specs.Monotonic.{u64_opens, u64_steps}
+use Rattle.std.proofs.Common.{◌≡◌, ◌+◌, ◌<◌, ◌++◌, List, ℕ, Ok, Result, OnOk, string_bytes, sym, ap, ◌∙◌, subst, arith}
+use Rattle.format.specs.Faults.{told}
+use Rattle.format.specs.Monotonic.{u64_meaning}
 use Rattle.format.specs.Reading.{key_at, read_area}
-use Rattle.block.specs.declared.found.Delta.{Delta}
+use Rattle.block.specs.declared.fault.ReadFault.{ReadFault}
 use Rattle.block.specs.Entries.{delta_of}
-use Rattle.block.specs.Readers.{position_of, standing, told_delta}
+use Rattle.block.specs.Readers.{told_delta}
 use Rattle.block.specs.Told.{of_read}
-use Rattle.listing.specs.Listing.{listed}
-use Rattle.listing.proofs.Steps.{Turned, turned, turned_end, turned_fault, key_of_lem}
+use Rattle.listing.specs.Listing.{listed, closing}
+use Rattle.listing.proofs.Steps.{At, position_at, turned, left_at_end, left_at_fault, has_key, key_there, key_is}
 use Rattle.listing.proofs.push_entries.Goals as goal
+use Rattle.listing.proofs.push_entries.Goals.{in-Ok-None, in-Err}
 
 -- after a line
-turn : (c : goal.In_ok-push_line) → Turned u64_opens u64_steps c.args.area.now (vec_items c.args.text.now ++ listed 0 (read_area u64_opens u64_steps c.args.area.now)) (vec_items c.loop-next.text) c.loop-next.count c.loop-next.reader.phase (position_of c.loop-next.reader) c.advance.new.self.phase (position_of c.advance.new.self) (vec_items c.push_line.new.text)
+turn : (c : goal.In_ok-push_line-in-Ok-Some)
+    → At c.args.area.now (string_bytes c.args.text.now ++ listed 0 (read_area u64_meaning c.args.area.now)) (string_bytes c.push_line.new.text) (c.in-Ok-Some.delta.ordinal + 1) c.advance.new.self
+    × ((position_at c.loop-delta.reader).next < (position_at c.advance.new.self).next)
 turn c =
-    let i = c.loop-next.invariant in
-    turned u64_opens u64_steps c.args.area.now _ (vec_items c.loop-next.text) c.loop-next.count c.loop-next.reader.phase (position_of c.loop-next.reader) i.0 i.1 i.2 i.3
-    c.advance.new.self.phase (position_of c.advance.new.self) (vec_items c.push_line.new.text) c.unwrap_or-key.result.now (delta_of c.in-Some.delta)
-    (ap (λ (z : Option (Delta ℕ)). told_delta (Ok z)) (sym c.in-Some.is) ∙ c.in-Ok.ensures.answer) c.advance.ensures.after
-    (key_of_lem c.key.result c.unwrap_or-key.result _ (key_at (standing c.advance.new.self)) c.unwrap_or-key.ensures refl c.key.ensures)
-    c.in_ok-push_line.ensures
+    turned c.args.area.now _ (string_bytes c.loop-delta.text) c.loop-delta.count c.loop-delta.reader c.loop-delta.invariant
+    c.advance.new.self (string_bytes c.push_line.new.text) c.unwrap-key.result.now (delta_of c.in-Ok-Some.delta)
+    (ap told_delta (sym (c.in-Ok-Some.is ∙ ap Ok c.in-Ok-Some.field-0-is)) ∙ c.advance.ensures.answers) c.advance.ensures.leaves
+    (key_is c.key.result c.unwrap-key.result (key_at c.advance.new.self) c.unwrap-key.ensures c.key.ensures)
+    c.in_ok-push_line-in-Ok-Some.ensures
 
-pub loop-next-smaller : goal.loop-next-smaller
-loop-next-smaller c = let t = turn c in omega (arith, t.further, t.inside)
+pub unwrap-key-requires : goal.unwrap-key-requires
+unwrap-key-requires c =
+    key_there c.key.result (key_at c.advance.new.self) c.key.ensures
+    (has_key c.args.area.now _ (string_bytes c.loop-delta.text) c.loop-delta.count c.loop-delta.reader c.loop-delta.invariant
+    c.advance.new.self (delta_of c.in-Ok-Some.delta)
+    (ap told_delta (sym (c.in-Ok-Some.is ∙ ap Ok c.in-Ok-Some.field-0-is)) ∙ c.advance.ensures.answers) c.advance.ensures.leaves)
 
-pub loop-next-preserved : goal.loop-next-preserved
-loop-next-preserved c = let t = turn c in (t.text_is, t.stands, t.inside, t.behind_it)
+pub loop-delta-smaller : goal.loop-delta-smaller
+loop-delta-smaller c = let t = turn c in omega (arith, t.0.inside)
 
-pub returns-in_default : goal.returns-in_default
-returns-in_default c =
-    let i = c.loop-next.invariant in
-    turned_end u64_opens u64_steps c.args.area.now _ (vec_items c.loop-next.text) c.loop-next.count c.loop-next.reader.phase (position_of c.loop-next.reader) i.0 i.1 i.2 i.3
-    (vec_items c.push_end.new.text) (ap (λ (z : Option (Delta ℕ)). told_delta (Ok z)) (sym c.in_default.is) ∙ c.in-Ok.ensures.answer) c.in_ok-push_end.ensures
+pub loop-delta-preserved : goal.loop-delta-preserved
+loop-delta-preserved c = (turn c).0
 
-pub returns-in-Err : goal.returns-in-Err
-returns-in-Err c =
-    let i = c.loop-next.invariant in
-    turned_fault u64_opens u64_steps c.args.area.now _ (vec_items c.loop-next.text) c.loop-next.count c.loop-next.reader.phase (position_of c.loop-next.reader) i.0 i.1 i.2 i.3
-    (vec_items c.push_fault.new.text) (of_read c.in-Err.fault) c.in-Err.ensures.answer c.in_ok-push_fault-in-Err.ensures
+pub overflow_add-count : goal.overflow_add-count
+overflow_add-count c = let t = turn c in omega (arith, t.0.inside, t.0.few)
+
+pub returns : goal.returns
+returns c =
+    let area = c.args.area.now in
+    let whole = string_bytes c.args.text.now ++ listed 0 (read_area u64_meaning area) in
+    let text = string_bytes c.loop-delta.text in
+    let last = λ (r : Result ℕ ReadFault). text ++ closing (told of_read r) in
+    let left : last c.match-advance.counted ≡ whole =
+    elim c.match-advance.branch [
+      | in-Ok-None w ↦
+          ap last w.counted-is
+          ∙ left_at_end area whole text c.loop-delta.count c.loop-delta.reader c.loop-delta.invariant (ap told_delta (sym (w.in-Ok-None.is ∙ ap Ok w.in-Ok-None.field-0-is)) ∙ c.advance.ensures.answers)
+      | in-Err w ↦
+          ap last w.counted-is
+          ∙ left_at_fault area whole text c.loop-delta.count c.loop-delta.reader c.loop-delta.invariant (of_read w.in-Err.fault) (ap told_delta (sym w.in-Err.is) ∙ c.advance.ensures.answers)
+    ] in
+    subst (λ (z : List ℕ). OnOk c.push_last_line.result (string_bytes c.push_last_line.new.text ≡ z)) left c.push_last_line.ensures

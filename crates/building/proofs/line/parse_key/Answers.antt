@@ -1,15 +1,14 @@
-use Rattle.std.proofs.Common.{vec_items, arith}
-use Rattle.building.proofs.Digits.{key_more, key_odd, key_bad, key_whole}
+use Rattle.std.proofs.Common.{sym, ap, ◌∙◌, inl, inr}
+use Rattle.std.specs.Result.{result_ok}
+use Rattle.building.proofs.Digits.{key_is}
 use Rattle.building.proofs.line.parse_key.Goals as goal
 
-pub returns-then-at-digits : goal.returns-then-at-digits
-returns-then-at-digits c = key_odd c.args.digits.now (vec_items c.loop-at.key) c.loop-at.at _ (omega arith) c.loop-at.invariant
+pub returns-in-Ok : goal.returns-in-Ok
+returns-in-Ok c = sym (ap result_ok c.in-Ok.ensures.ok) ∙ key_is c.args.digits.now
 
 pub returns-in_default : goal.returns-in_default
-returns-in_default c = key_bad c.args.digits.now (vec_items c.loop-at.key) c.loop-at.at _ (omega arith) c.loop-at.invariant c.in_default.ensures
-
-pub loop-at-preserved : goal.loop-at-preserved
-loop-at-preserved c = key_more c.args.digits.now (vec_items c.loop-at.key) _ c.loop-at.at _ _ (omega arith) c.loop-at.invariant c.in-Some.ensures c.in_ok-push.ensures.items
-
-pub returns : goal.returns
-returns c = key_whole c.args.digits.now (vec_items c.loop-at.key) c.loop-at.at _ (omega arith) c.loop-at.invariant
+returns-in_default c =
+    elim c.in-Err.ensures.err [
+      | inl memory ↦ absurd (c.in_default.not-OutOfMemory memory)
+      | inr e ↦ sym (ap result_ok e) ∙ key_is c.args.digits.now
+    ]

@@ -1,18 +1,10 @@
-use Rattle.std.proofs.Common.{◌+◌, vec_items, sym, ap, ◌∙◌, arith}
-use Rattle.std.proofs.lemmas.List.{take_rest}
-use Rattle.std.specs.Option.{option_map}
-use Rattle.building.specs.Lines.{value_of}
-use Rattle.building.proofs.Digits.{parsed_is, no_value}
+use Rattle.std.proofs.Common.{sym, ap, ◌∙◌}
+use Rattle.building.specs.Lines.{key_of, entry_in, entry_of_halves}
+use Rattle.building.proofs.Digits.{none_without}
 use Rattle.building.proofs.line.parse_line.Goals as goal
 
-pub returns-in_default : goal.returns-in_default
-returns-in_default c =
-    let line = c.args.line.now in
-    no_value line c.find-tab.result c.find-tab.ensures.value (omega (arith, c.find-tab.ensures.bound, c.if-tab-line.false)) (c.in_default.ensures ∙ ap value_of (take_rest line (c.find-tab.result + 1)))
-
-pub returns : goal.returns
-returns c =
-    let line = c.args.line.now in
-    parsed_is line c.find-tab.result (vec_items c.in-Some-2.key) c.in-Some.value c.find-tab.ensures.value (omega (arith, c.find-tab.ensures.bound, c.if-tab-line.false))
-    (ap (option_map vec_items) (sym c.in-Some-2.is) ∙ c.in_ok-key.ensures)
-    (c.in-Some.ensures ∙ ap value_of (take_rest line (c.find-tab.result + 1)))
+pub returns-in_default-parse_value : goal.returns-in_default-parse_value
+returns-in_default-parse_value c =
+    let key = key_of c.in-Some.key.now in
+    let none = sym c.parse_value.ensures ∙ c.in_default-parse_value.is in
+    sym (none_without key) ∙ ap (entry_in key) (sym none) ∙ ap entry_of_halves c.in-Some.ensures

@@ -1,10 +1,10 @@
-use Rattle.std.proofs.Common.{◌-◌, ◌≤◌, length, vec_items}
-use Rattle.writer.specs.States.{state}
-use Rattle.building.proofs.Builds.{Stands}
+use Rattle.std.specs.Iterator.Adapters.{enumerate_source, enumerate_count}
+use Rattle.building.specs.Lines.{lines_of}
+use Rattle.building.proofs.Builds.{At}
 use Rattle.building.proofs.text.build.Given as goal
 
-abbrev pub invariant-loop-start : goal.invariant-loop-start
-invariant-loop-start l = (l.line ≤ l.start) × Stands l.initial.output l.text l.line l.start (state (λ c. vec_items c.vals) l.writer) l.output
-
-abbrev pub decreases-loop-start : goal.decreases-loop-start
-decreases-loop-start l = length l.text - l.start
+abbrev pub invariant-loop-above : goal.invariant-loop-above
+invariant-loop-above l =
+    (goal.iterator-loop-above).can_next l.above-iterator
+    × (goal.iterator-loop-above).is_finite l.above-iterator
+    × At l.initial.output l.text (enumerate_count l.above-iterator) (lines_of (enumerate_source l.above-iterator).0.now) l.writer l.output

@@ -1,14 +1,12 @@
-use Rattle.std.proofs.Common.{length, ap, arith}
-use Rattle.format.proofs.NumberLaws.{leb_last, leb_more, leb_ten, leb_some}
+use Rattle.std.proofs.Common.{suc, ◌*◌, ◌/◌, ◌≤◌, sym, arith}
+use Rattle.std.proofs.Math.Nat.{pow-suc}
+use Rattle.std.proofs.Math.Pow.{pow_mono}
+use Rattle.format.proofs.NumberLaws.{leb_bits}
 use Rattle.codec.proofs.vint.serialized_len.Goals as goal
 
-pub overflow_add-n : goal.overflow_add-n
-overflow_add-n c = omega (arith, leb_ten c.args.val (omega arith))
-
-pub loop-rest-preserved : goal.loop-rest-preserved
-loop-rest-preserved c = omega (arith, ap length (leb_more c.loop-rest.rest (omega arith)))
-
-pub returns : goal.returns
-returns c =
-    let e = ap length (leb_last c.loop-rest.rest (omega arith)) in
-    record { value = omega arith; some = omega (arith, leb_some c.args.val); ten = omega (arith, leb_ten c.args.val (omega arith)) }
+pub returns-clause-value : goal.returns-clause-value
+returns-clause-value c =
+    let r = c.ilog2.result in
+    let low : 7 * (r / 7) ≤ r = omega arith in
+    let high : suc r ≤ 7 * suc (r / 7) = omega arith in
+    sym (leb_bits (r / 7) c.args.val (omega (arith, pow_mono high, pow-suc 2 r)) (λ z. let seven : 7 ≤ r = omega arith in omega (arith, pow_mono low, pow_mono seven)))

@@ -1,6 +1,6 @@
 use Rattle.std.proofs.Common.{◌≡◌, ◌≤◌, map, length, take, vec_items, vec_len, vec_capacity}
+use Rattle.codec.specs.Meanings.{meaning}
 use Rattle.format.specs.Faults.{told}
-use Rattle.writer.specs.States.{state}
 use Rattle.writer.specs.Told.{of_writer}
 use Rattle.sstable.specs.Calls.{call_of}
 use Rattle.sstable.proofs.History.{Ran}
@@ -8,5 +8,8 @@ use Rattle.sstable.proofs.run.run_calls.Given as goal
 
 abbrev pub invariant-loop-call : goal.invariant-loop-call
 invariant-loop-call g l =
-    (vec_len l.answers ≡ l.call-index) × (length l.calls ≤ vec_capacity l.answers)
-    × Ran g.C.Codec.rule g.C.Codec.bytes l.initial.output (map call_of (take l.call-index l.calls)) (map (told of_writer) (vec_items l.answers)) (state g.C.Codec.list l.writer) l.output
+    record {
+      count : vec_len l.answers ≡ l.call-index;
+      room : length l.calls ≤ vec_capacity l.answers;
+      ran : Ran (meaning g.C.Codec) l.initial.output (map call_of (take l.call-index l.calls)) (map (told of_writer) (vec_items l.answers)) l.writer l.output;
+    }

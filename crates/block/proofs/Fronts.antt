@@ -1,0 +1,16 @@
+-- The front that two keys share, as the code finds it.
+use Rattle.std.proofs.Common.{◌≡◌, ℕ, suc, ◌+◌, cond, eqb, List, [], ◌∷◌, length, take, refl, ap, ◌∙◌, arith}
+use Rattle.std.proofs.lemmas.List.Folds.{length-prefix_len}
+use Rattle.std.specs.List.{prefix_len, zip}
+use Rattle.format.specs.Keys.{shared}
+
+shared_zip : (a b : List ℕ) → prefix_len (λ p. eqb p.0 p.1) (zip a b) ≡ shared a b
+shared_zip [] b = refl
+shared_zip (x ∷ a) [] = refl
+shared_zip (x ∷ a) (y ∷ b) =
+    let n : 1 + prefix_len (λ p. eqb p.0 p.1) (zip a b) ≡ suc (shared a b) = omega (arith, shared_zip a b) in
+    ap (λ (n : ℕ). cond (eqb x y) n 0) n
+
+-- the bytes that two keys share, as the code takes them
+pub prefix_shared : (a b : List ℕ) → length (take (prefix_len (λ p. eqb p.0 p.1) (zip a b)) (zip a b)) ≡ shared a b
+prefix_shared a b = length-prefix_len (λ p. eqb p.0 p.1) (zip a b) ∙ shared_zip a b
