@@ -1,16 +1,19 @@
 // Builds an sstable of u64 values from the lines on standard input, and lists it.
 #![tactic(auto)]
 
-use building::build_vec;
+use building::build;
 use std::io;
 use std::io::{Read, Write};
+
+const OUTPUT_LEN: usize = 1_048_576;
 
 fn main(rt: HostRuntime) -> io::Result<()> {
     let mut text = Vec::new(rt.alloc());
     rt.stdin().read_to_end(&mut text)?;
-    match build_vec(rt.alloc(), &text) {
-        Ok(sstable) => {
-            let listing = listing::list(rt.alloc(), &sstable)?;
+    let mut output = vec![in rt.alloc(); 0; OUTPUT_LEN]?;
+    match build(rt.alloc(), &text, &mut output) {
+        Ok(len) => {
+            let listing = listing::list(rt.alloc(), &output[..len])?;
             rt.stdout().write_all(&listing)
         }
         Err(fault) => println!(rt; "{fault}"),
