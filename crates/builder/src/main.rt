@@ -3,14 +3,17 @@
 #![tactic(auto)]
 
 use anyhow::bail;
-use building::build_vec;
+use building::build;
 use std::io::{Read, Write};
+
+const OUTPUT_LEN: usize = 1_048_576;
 
 fn main(rt: HostRuntime) -> anyhow::Result<()> {
     let mut text = Vec::new(rt.alloc());
     rt.stdin().read_to_end(&mut text)?;
-    match build_vec(rt.alloc(), &text) {
-        Ok(sstable) => rt.stdout().write_all(&sstable)?,
+    let mut output = vec![in rt.alloc(); 0; OUTPUT_LEN]?;
+    match build(rt.alloc(), &text, &mut output) {
+        Ok(len) => rt.stdout().write_all(&output[..len])?,
         Err(fault) => {
             eprintln!(rt; "{fault}")?;
             bail!("nothing is built");
