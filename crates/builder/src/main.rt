@@ -3,10 +3,8 @@
 #![tactic(auto)]
 
 use anyhow::bail;
-use building::build;
+use building::{OUTPUT_LEN, build};
 use std::io::{Read, Write};
-
-const OUTPUT_LEN: usize = 1_048_576;
 
 fn main(rt: HostRuntime) -> anyhow::Result<()> {
     let mut text = Vec::new(rt.alloc());

@@ -10,4 +10,4 @@ mod whole;
 
 pub use line::{Line, parse_line};
 pub use text::build;
-pub use whole::build_vec;
+pub use whole::{OUTPUT_LEN, build_vec};

@@ -6,8 +6,8 @@ use crate::fault::BuildFault;
 use crate::text::build;
 use std::alloc::Global;
 
-// The sstable has no more bytes.
-const OUTPUT_LEN: usize = 1_048_576;
+// The most bytes of an sstable that `build_vec` and the programs build.
+pub const OUTPUT_LEN: usize = 1_048_576;
 
 // The sstable of the entries that the lines of a text have, in memory of its own.
 pub fn build_vec(heap: Global, text: &[u8]) -> Result<Vec<u8>, BuildFault>

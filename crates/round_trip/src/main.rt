@@ -1,11 +1,9 @@
 // Builds an sstable of u64 values from the lines on standard input, and lists it.
 #![tactic(auto)]
 
-use building::build;
+use building::{OUTPUT_LEN, build};
 use std::io;
 use std::io::{Read, Write};
-
-const OUTPUT_LEN: usize = 1_048_576;
 
 fn main(rt: HostRuntime) -> io::Result<()> {
     let mut text = Vec::new(rt.alloc());
