@@ -15,7 +15,10 @@ pub fn common_prefix_len(left: &[u8], right: &[u8]) -> usize
     ensures value { result ≡ shared left.now right.now }
     ensures within { result ≤ length right.now }
 {
-    left.iter().zip(right).take_while(|(a, b)| a == b).count()
+    // both are cut to one length, so that one test a byte sees the end of either
+    let shorter = left.len().min(right.len());
+    let pairs = left[..shorter].iter().zip(&right[..shorter]);
+    pairs.take_while(|(a, b)| a == b).count()
 }
 
 // Whether the first key is below the second: at the end of their shared front it has the smaller byte, or none.
