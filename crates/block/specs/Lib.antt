@@ -3,5 +3,5 @@ pub mod HeaderBack
 pub mod Headers
 pub mod Blocks
 pub mod Entries
-pub mod Readers
 pub mod Positions
+pub mod Readers

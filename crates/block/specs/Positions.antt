@@ -21,9 +21,13 @@ position_of p =
       ordinal = p.ordinal;
     }
 
-pub record IsPosition (p : Inside) : Type 0 where
+-- what holds of a reading wherever it stands
+pub record IsPlace (p : Position) : Type 0 where
   pub within : p.next ≤ p.finish
   pub behind : p.next < p.finish → p.start + 5 ≤ p.next
   -- each entry has a header
   pub counted : p.ordinal ≤ p.next
-  pub short : length (key_of (last_of p.last)) ≤ longest
+  pub short : length (key_of p.last) ≤ longest
+
+abbrev pub IsPosition : Inside → Type 0
+IsPosition p = IsPlace (position_of p)

@@ -9,6 +9,7 @@ use Rattle.block.specs.declared.found.Delta.{Delta}
 use Rattle.block.specs.declared.reader.Phase.{Phase}
 use Rattle.block.specs.declared.reader.Phase.TheVariants.{Reading, Ended, Faulted}
 use Rattle.block.specs.Entries.{delta_of}
+use Rattle.block.specs.Positions.{IsPlace}
 use Rattle.block.specs.Told.{of_read}
 
 abbrev pub standing_in : Phase → Position → Standing
@@ -22,6 +23,12 @@ module _ {V : Type 0} where
   told_delta (Ok (Some d)) = Ok (Some (delta_of d))
   told_delta (Ok None) = Ok None
   told_delta (Err e) = Err (of_read e)
+
+-- what holds of a reader at all times: of where it stands, while it reads
+abbrev pub Sound : Standing → Type 0
+Sound (stands p) = IsPlace p
+Sound at_end = Unit {0}
+Sound (stopped f) = Unit {0}
 
 -- An advance answers and leaves what one step of the reading says.
 pub record Advances {V : Type 0} (means : Meaning V) (area : List ℕ) (old : Standing) (got : Result (Option (Delta V)) ReadFault) (new : Standing) : Type 0 where

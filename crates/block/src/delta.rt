@@ -3,11 +3,12 @@ ghost use Rattle.codec.specs.Meanings.{meaning};
 ghost use Rattle.std.specs.Prelude.{◌≡◌, ℕ, ◌+◌, ◌≤◌, length, IfOk, IfSome};
 ghost use Rattle.std.specs.Option.{option_map};
 ghost use Rattle.format.specs.Faults.{told};
+ghost use Rattle.format.specs.Keys.{longest};
 ghost use Rattle.format.specs.Reading.{step_at, from, reading, key_at};
 ghost use Rattle.block.specs.Blocks.{values_in, IsWithin};
 ghost use Rattle.block.specs.Entries.{step_of, step_from, border_of, IsAtEntry};
 ghost use Rattle.block.specs.Told.{of_block};
-ghost use Rattle.block.specs.Readers.{Advances};
+ghost use Rattle.block.specs.Readers.{Advances, Sound};
 
 use crate::block_reader::read_block;
 use crate::fault::{BlockFault, ReadFault};
@@ -102,7 +103,9 @@ impl<C: Codec> DeltaReader<C> {
 
     // The key of the entry that the last advance answered.
     pub fn key(&self) -> Option<&[u8]>
-        ensures { option_map (λ x. x.now) result ≡ key_at self.now }
+        ensures value { option_map (λ x. x.now) result ≡ key_at self.now }
+        ensures short { IfSome result (λ key. length key.now ≤ longest) }
+        ensures sound { Sound self.now }
     {
         match self.phase {
             Phase::Reading => self.position.key(),

@@ -1,9 +1,9 @@
 // Where a reading stands between two entries.
-ghost use Rattle.std.specs.Prelude.{◌≡◌, ℕ, ◌+◌, ◌<◌, ◌≤◌, ◌++◌, length, take, Some};
+ghost use Rattle.std.specs.Prelude.{◌≡◌, ℕ, ◌+◌, ◌<◌, ◌≤◌, ◌++◌, length, take, Some, IfSome};
 ghost use Rattle.std.specs.Option.{option_map};
 ghost use Rattle.format.specs.Keys.{longest};
 ghost use Rattle.format.specs.Reading.{from as from_place, key_of};
-ghost use Rattle.block.specs.Positions.{last_of};
+ghost use Rattle.block.specs.Positions.{IsPlace, last_of};
 
 use crate::frame::Block;
 use crate::keys::Key;
@@ -68,7 +68,9 @@ impl Position {
 
     // The key of the entry that was read last.
     pub(crate) fn key(&self) -> Option<&[u8]>
-        ensures { option_map (λ x. x.now) result ≡ self.now.last }
+        ensures value { option_map (λ x. x.now) result ≡ self.now.last }
+        ensures short { IfSome result (λ key. length key.now ≤ longest) }
+        ensures sound { IsPlace self.now }
     {
         self.last.as_ref().map(|key| key.as_slice())
     }

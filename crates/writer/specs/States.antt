@@ -1,5 +1,5 @@
 -- What a writer holds, and what each call makes of it.
-use Rattle.std.specs.Prelude.{◌≡◌, ℕ, ◌+◌, ◌-◌, ◌≤◌, Bool, true, cond, List, [], ◌∷◌, ◌++◌, length, Some, None, Ok, Err, Option, Result, is_ok, if◌then◌else◌, ◌==◌, nat_lt}
+use Rattle.std.specs.Prelude.{◌≡◌, ℕ, ◌+◌, ◌-◌, ◌*◌, ◌≤◌, Bool, true, cond, List, [], ◌∷◌, ◌++◌, length, Some, None, Ok, Err, Option, Result, is_ok, if◌then◌else◌, ◌==◌, nat_lt}
 use Rattle.format.specs.Codecs.{Meaning, takes, write_answer}
 use Rattle.format.specs.Buffers.{written}
 use Rattle.format.specs.declared.fault.Fault.{Fault}
@@ -210,3 +210,11 @@ pub record Inserts {V : Type 0} (means : Meaning V) (k : List ℕ) (v : V) (old 
 pub record Fits {V : Type 0} (means : Meaning V) (t : OpenTable V) (k : Kept) (v : V) (room : ℕ) : Type 0 where
   pub allowed : Allows means.rule t.block v
   pub room_is : HasRoom t (length (flushed means.bytes (pushed t.block k v))) room
+
+-- What holds of a writer at all times.
+pub record Sound {V : Type 0} (s : State V) : Type 0 where
+  pub last_short : length (key_of s.table.last) ≤ longest
+  pub waiting_short : length s.waiting ≤ longest
+  pub delta_short : length s.table.block.delta ≤ 4000
+  -- an entry adds at least one byte to the delta part, and a flush of at most 4,533 of them writes five more
+  pub counted : 4538 * s.table.ordinal ≤ 4533 * s.table.end + 4538 * length s.table.block.delta

@@ -48,7 +48,8 @@ impl<'a> KeyRef<'a> {
 
     // Puts the key in place of another.
     pub(crate) fn copy_to(&self, kept: &mut Key)
-        ensures { kept.new.items ≡ self.now }
+        ensures items { kept.new.items ≡ self.now }
+        ensures short { length self.now ≤ longest }
     {
         kept.clear();
         kept.try_extend_from_slice(self.bytes).unwrap();
@@ -109,7 +110,8 @@ impl DeltaKey<'_> {
     // Puts it in place of a key whose bytes it keeps.
     pub(crate) fn replace(&self, kept: &mut Key)
         requires { take self.now.keep kept.old.items ≡ take self.now.keep self.now.key }
-        ensures { kept.new.items ≡ self.now.key }
+        ensures items { kept.new.items ≡ self.now.key }
+        ensures short { length self.now.key ≤ longest }
     {
         kept.truncate(self.keep);
         kept.try_extend_from_slice(&self.bytes[self.keep..])

@@ -4,7 +4,7 @@ ghost use Rattle.block.specs.Positions.{last_of};
 ghost use Rattle.codec.specs.Meanings.{meaning};
 ghost use Rattle.format.specs.Buffers.{written};
 ghost use Rattle.format.specs.Faults.{told};
-ghost use Rattle.format.specs.Keys.{follows};
+ghost use Rattle.format.specs.Keys.{longest, follows};
 ghost use Rattle.format.specs.Reading.{key_of};
 ghost use Rattle.writer.specs.States.{nothing_written, last_key, key_test, room_test, entry_test, finish_test, kept_of, flushed_by, took_entry, ending, ended, HasRoom, Fits, Inserts};
 ghost use Rattle.writer.specs.Told.{of_writer};
@@ -53,7 +53,8 @@ fn bytes_of(last: &Option<Key>) -> &[u8]
 // of its callers, which no public function may.
 fn set_last(last: &mut Option<Key>, key: &DeltaKey<'_>)
     requires { take key.now.keep (key_of (last_of last.old)) ≡ take key.now.keep key.now.key }
-    ensures { last_of last.new ≡ Some key.now.key }
+    ensures key { last_of last.new ≡ Some key.now.key }
+    ensures short { length key.now.key ≤ longest }
 {
     key.replace(last.get_or_insert_with(Key::new));
 }

@@ -3,7 +3,7 @@ ghost use Rattle.std.specs.Prelude.{◌≡◌, length};
 ghost use Rattle.codec.specs.Meanings.{meaning};
 ghost use Rattle.format.specs.Writing.{output, Room as IsRoom};
 ghost use Rattle.writer.specs.Standing.{HoldsOf, phase_of};
-ghost use Rattle.writer.specs.States.{Room};
+ghost use Rattle.writer.specs.States.{Room, Sound};
 
 use crate::phase::Phase;
 use crate::writer::Writer;
@@ -25,6 +25,7 @@ impl<C: Codec> Writer<C> {
     pub fn num_terms(&self) -> u64
         ensures state { result ≡ self.now.table.ordinal }
         ensures entries { HoldsOf (meaning C.Codec) self.now (λ w. result ≡ length w.taken) }
+        ensures sound { Sound self.now }
     {
         self.table.ordinal
     }

@@ -20,7 +20,10 @@ impl<C: Codec> Model for Writer<C> {
 
     ghost Value = { State C.Value };
 
+    ghost use Rattle.std.specs.Prelude.{◌≤◌, length};
     ghost use Rattle.writer.specs.WriterFields.{writer_view};
 
     ghost view = { writer_view };
+
+    ghost invariant = { λ w. length w.waiting.items ≤ 512 };
 }

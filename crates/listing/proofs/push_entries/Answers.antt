@@ -19,12 +19,12 @@ turn c =
     turned c.args.area.now _ (string_bytes c.loop-delta.text) c.loop-delta.count c.loop-delta.reader c.loop-delta.invariant
     c.advance.new.self (string_bytes c.push_line.new.text) c.unwrap-key.result.now (delta_of c.in-Ok-Some.delta)
     (ap told_delta (sym (c.in-Ok-Some.is ∙ ap Ok c.in-Ok-Some.field-0-is)) ∙ c.advance.ensures.answers) c.advance.ensures.leaves
-    (key_is c.key.result c.unwrap-key.result (key_at c.advance.new.self) c.unwrap-key.ensures c.key.ensures)
+    (key_is c.key.result c.unwrap-key.result (key_at c.advance.new.self) c.unwrap-key.ensures c.key.ensures.value)
     c.in_ok-push_line-in-Ok-Some.ensures
 
 pub unwrap-key-requires : goal.unwrap-key-requires
 unwrap-key-requires c =
-    key_there c.key.result (key_at c.advance.new.self) c.key.ensures
+    key_there c.key.result (key_at c.advance.new.self) c.key.ensures.value
     (has_key c.args.area.now _ (string_bytes c.loop-delta.text) c.loop-delta.count c.loop-delta.reader c.loop-delta.invariant
     c.advance.new.self (delta_of c.in-Ok-Some.delta)
     (ap told_delta (sym (c.in-Ok-Some.is ∙ ap Ok c.in-Ok-Some.field-0-is)) ∙ c.advance.ensures.answers) c.advance.ensures.leaves)

@@ -19,4 +19,4 @@ returns c =
     let keep = c.args.suffix.keep in
     let bytes = c.args.suffix.bytes.now in
     let m : MatchOption c.key.result (IsTrue c.is_none_or.result) (λ x. c.is_none_or.result ≡ below (take (length x.now - keep) (drop keep x.now)) bytes) = search rules in
-    follows_kept c.key.result c.args.self.now.last keep bytes c.is_none_or.result c.key.ensures c.requires m
+    follows_kept c.key.result c.args.self.now.last keep bytes c.is_none_or.result c.key.ensures.value c.requires m
