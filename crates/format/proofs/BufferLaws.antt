@@ -1,15 +1,21 @@
 -- Laws of bytes put into a buffer.
-use Rattle.std.proofs.Common.{◌≡◌, ℕ, suc, ◌+◌, ◌-◌, ◌<◌, ◌≤◌, List, [], ◌∷◌, ◌++◌, length, take, drop, set, sym, refl, ap, ◌∙◌, arith, length-append}
+use Rattle.std.proofs.Common.{◌≡◌, ℕ, suc, ◌+◌, ◌-◌, ◌<◌, ◌≤◌, List, [], ◌∷◌, ◌++◌, length, take, drop, set, sym, refl, ap, ◌∙◌, arith, length-append, length-drop}
 use borrow.Rule.Slice.PartMut.{put_mid}
 use lib.Seq.{paste}
 use Rattle.std.proofs.lemmas.List.Edits.{paste_all, paste-paste}
-use Rattle.std.proofs.lemmas.List.{set_split, take-append-drop}
+use Rattle.std.proofs.lemmas.List.{length-take-le, set_split, take-append-drop}
 use Rattle.std.proofs.lemmas.Slice.{put_mid-paste}
 use Rattle.format.specs.Buffers.{written}
 
 -- nothing put leaves the buffer as it was
 pub written_none : (out : List ℕ) (at : ℕ) → written out at [] ≡ out
 written_none out at = let e : at + 0 ≡ at = omega arith in rw e (take-append-drop at out)
+
+-- and what is put leaves its length
+pub written_length : (out : List ℕ) (at : ℕ) (bs : List ℕ) → at + length bs ≤ length out → length (written out at bs) ≡ length out
+written_length out at bs h =
+    let l : length (take at out) ≡ at = length-take-le at out (omega arith) in
+    simp (length-append, length-drop) (rw l (omega arith))
 
 -- two pieces, one behind the other
 pub written_both : (out : List ℕ) (at : ℕ) (s t : List ℕ) → at ≤ length out → written (written out at s) (at + length s) t ≡ written out at (s ++ t)

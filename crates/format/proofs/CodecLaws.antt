@@ -1,8 +1,8 @@
 -- Laws of allowed lists, for every rule.
-use Rattle.std.proofs.Common.{◌≡◌, Bool, true, List, [], ◌∷◌, ◌++◌, refl, append_assoc}
+use Rattle.std.proofs.Common.{◌≡◌, ℕ, ◌≤◌, Bool, true, List, [], ◌∷◌, ◌++◌, length, refl, append_assoc, arith}
 use Rattle.std.proofs.lemmas.List.{append-nil}
 use Rattle.std.proofs.lemmas.Bool.{and_parts, and_from}
-use Rattle.format.specs.Codecs.{allowed_after, Allowed}
+use Rattle.format.specs.Codecs.{allowed_after, Allowed, most}
 
 module _ {V : Type 0} (rule : List V → V → Bool) where
   -- an allowed list with a value that may follow it
@@ -17,3 +17,7 @@ module _ {V : Type 0} (rule : List V → V → Bool) where
 
   pub allowed_push : (vs : List V) (v : V) → Allowed rule vs → rule vs v ≡ true → Allowed rule (vs ++ v ∷ [])
   allowed_push vs v a r = allowed_behind [] vs v a r
+
+  -- a list that is counted by n is held
+  pub list_held : (vs : List V) (n : ℕ) → Allowed rule vs → n ≡ length vs → n ≤ most → Allowed rule vs × (length vs ≤ most)
+  list_held vs n a e h = (a, omega arith)

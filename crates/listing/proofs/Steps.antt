@@ -1,5 +1,5 @@
 -- What a loop over a reading learns from each answer.
-use Rattle.std.proofs.Common.{◌≡◌, ℕ, suc, ◌+◌, ◌-◌, ◌<◌, ◌≤◌, List, ◌++◌, length, Some, None, Ok, Err, Option, sym, refl, ap, ◌∙◌, subst, append_assoc, arith, Bor}
+use Rattle.std.proofs.Common.{◌≡◌, ℕ, suc, ◌+◌, ◌-◌, ◌<◌, ◌≤◌, List, [], ◌++◌, length, Some, None, Ok, Err, Option, sym, refl, ap, ◌∙◌, subst, append_assoc, arith, unwrap_or, Bor}
 use Rattle.std.specs.Option.{option_map, IsSome}
 use Rattle.format.specs.Codecs.{Meaning}
 use Rattle.format.specs.declared.fault.Fault.{Fault}
@@ -135,6 +135,11 @@ module _ (area whole text : List ℕ) (count : ℕ) (s : Standing) (at : At area
 pub key_there : (o : Option (Bor (List ℕ))) (k : Option (List ℕ)) → option_map (λ x. x.now) o ≡ k → IsSome k → IsSome o
 key_there None k e i = let z : IsSome {T = List ℕ} None = subst IsSome (sym e) i in z
 key_there (Some x) k e i = refl
+
+-- the key that is read, or no bytes
+pub key_of_lem : (o : Option (Bor (List ℕ))) (r d : Bor (List ℕ)) (k : Option (List ℕ)) → r ≡ unwrap_or o d → d.now ≡ [] → option_map (λ x. x.now) o ≡ k → r.now ≡ key_of k
+key_of_lem None r d k e z m = ap (λ x. x.now) e ∙ z ∙ ap key_of m
+key_of_lem (Some x) r d k e z m = ap (λ x. x.now) e ∙ ap key_of m
 
 pub key_is : (o : Option (Bor (List ℕ))) (r : Bor (List ℕ)) (k : Option (List ℕ)) → o ≡ Some r → option_map (λ x. x.now) o ≡ k → r.now ≡ key_of k
 key_is o r k e m = ap (λ z. key_of (option_map (λ x. x.now) z)) (sym e) ∙ ap key_of m

@@ -32,7 +32,7 @@ module _ {V : Type 0} (means : Meaning V) where
   pub called_none : (room : ℕ) (w : Written V) (c : Call V) → refusal means w c room ≡ None → called means room w c ≡ accepted w c
   called_none room w c h = ap (λ (f : Option Fault). elim f [ None ↦ accepted w c | Some g ↦ w ]) h
 
-  called_some : (room : ℕ) (w : Written V) (c : Call V) (g : Fault) → refusal means w c room ≡ Some g → called means room w c ≡ w
+  pub called_some : (room : ℕ) (w : Written V) (c : Call V) (g : Fault) → refusal means w c room ≡ Some g → called means room w c ≡ w
   called_some room w c g h = ap (λ (f : Option Fault). elim f [ None ↦ accepted w c | Some g ↦ w ]) h
 
   does_case : (w : Written V) (c : Call V) (old : State V) (from : List ℕ) (got : Result (Unit {0}) WriterFault) (new : State V) (to : List ℕ) (f : Option Fault)

@@ -1,5 +1,5 @@
 -- Keys that share a front, and what one takes in the delta part.
-use Rattle.std.proofs.Common.{◌≡◌, ℕ, ◌+◌, ◌-◌, List, [], ◌∷◌, ◌++◌, length, take, drop, refl, ap, ◌∙◌, append_assoc, length-append, length-drop}
+use Rattle.std.proofs.Common.{◌≡◌, ℕ, ◌+◌, ◌-◌, true, List, [], ◌∷◌, ◌++◌, length, take, drop, is_ok, IfErr, Ok, Err, Result, refl, ap, ◌∙◌, append_assoc, length-append, length-drop}
 use Rattle.std.proofs.lemmas.List.{take_rest}
 use Rattle.format.specs.Headers.{header}
 use Rattle.format.proofs.EntryBack.{shared_front}
@@ -22,3 +22,8 @@ entry_pushed ds ds' ds'' k e f =
 pub kept_same : (ds last key : List ℕ) → take (behind (before ds last) key).keep last ≡ take (behind (before ds last) key).keep key
 kept_same [] last key = refl
 kept_same (d ∷ ds) last key = shared_front last key
+
+-- an answer that cannot be a refusal
+pub ok_since : {A E : Type 0} (r : Result A E) (P : Type 0) → IfErr r (λ _. P) → (P → ⊥) → is_ok r ≡ true
+ok_since (Ok x) P h n = refl
+ok_since (Err e) P h n = absurd (n h)

@@ -4,3 +4,4 @@ pub mod Cuts
 pub mod Standings
 pub mod Steps
 pub mod ByEntries
+pub mod Fits

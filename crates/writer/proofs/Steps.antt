@@ -99,7 +99,7 @@ module _ {V : Type 0} (bytes : List V → List ℕ) where
       ap (states.flushed bytes) (pushed_is ts (open_block ts) e o)
       ∙ ap (λ (b : List ℕ). cond (closes (open_block ts) e) b []) (block_is (open_block ts ++ e ∷ []))
 
-  closed_length : (ts : List (Entry V)) (e : Entry V) → length (closed_bytes bytes (ts ++ e ∷ [])) ≡ length (closed_bytes bytes ts) + length (cond (closes (open_block ts) e) (block bytes (open_block ts ++ e ∷ [])) [])
+  pub closed_length : (ts : List (Entry V)) (e : Entry V) → length (closed_bytes bytes (ts ++ e ∷ [])) ≡ length (closed_bytes bytes ts) + length (cond (closes (open_block ts) e) (block bytes (open_block ts ++ e ∷ [])) [])
   closed_length ts e = ap length (closed_push bytes ts e) ∙ length-append (closed_bytes bytes ts) (cond (closes (open_block ts) e) (block bytes (open_block ts ++ e ∷ [])) [])
 
   -- the state when an entry was taken
