@@ -1,12 +1,12 @@
 -- The library's reading of digits is the reading of a line's parts.
-use Rattle.std.proofs.Common.{◌≡◌, ℕ, ◌+◌, ◌-◌, ◌*◌, ◌%◌, ◌^◌, ◌<◌, ◌≤◌, true, false, rules, eqb, List, [], ◌∷◌, length, Some, None, Ok, Err, Option, Result, ◌≢◌, get_or, subst, sym, refl, ap, ◌∙◌, inl, inr, arith}
+use Rattle.std.proofs.Common.{◌≡◌, ℕ, ◌+◌, ◌-◌, ◌*◌, ◌%◌, ◌^◌, ◌<◌, ◌≤◌, Bool, true, false, ◌&&◌, rules, eqb, List, [], ◌∷◌, length, Some, None, Ok, Err, Option, Result, ◌≢◌, get_or, subst, sym, refl, ap, ◌∙◌, inl, inr, arith}
 use Rattle.std.proofs.lemmas.Bool.{cases_eq, and_parts}
 use Rattle.std.proofs.lemmas.Bool.Decides.{nat_tests}
 use Rattle.std.proofs.lemmas.Str.Parse.{IsNumeralModel, numerals_by_fold, tells_all_ascii_digits, parse_plain}
 use Rattle.std.proofs.lemmas.Str.{IsUtf8-from_ascii}
 use Rattle.std.proofs.lemmas.Fmt.{IsAscii-from_digits}
-use Rattle.std.specs.Char.{is_ascii_digit}
-use Rattle.std.specs.List.{starts_with}
+use Rattle.std.specs.Char.{is_ascii_digit, is_ascii_hexdigit}
+use Rattle.std.specs.List.{list_all, starts_with}
 use Rattle.std.specs.Result.{result_ok, OkIff}
 use Rattle.std.specs.Str.{all_ascii_digits, IsUtf8}
 use Rattle.std.specs.Str.Parse.{ParsesUnsigned}
@@ -58,6 +58,27 @@ odd_is_none : (ds : List ℕ) → length ds % 2 ≡ 1 → key_of ds ≡ None
 odd_is_none [] h = absurd (omega arith)
 odd_is_none (c ∷ []) h = refl
 odd_is_none (c ∷ d ∷ ds) h = ap (behind_byte (hex_byte c d)) (odd_is_none ds (omega arith)) ∙ behind_none (hex_byte c d)
+
+-- a key has no byte that is no digit
+digit_none : (c : ℕ) → is_ascii_hexdigit c ≡ false → hex_value c ≡ None
+digit_none c h = grind (arith, nat_tests)
+
+byte_none : (o : Option ℕ) → byte_of o None ≡ None
+byte_none (Some high) = refl
+byte_none None = refl
+
+pair_none : (p q r : Bool) (c d : ℕ) (ds : List ℕ) → is_ascii_hexdigit c ≡ p → is_ascii_hexdigit d ≡ q → (r ≡ false → key_of ds ≡ None) → (p && (q && r)) ≡ false
+    → behind_byte (hex_byte c d) (key_of ds) ≡ None
+pair_none false q r c d ds e f n h = ap (λ (o : Option ℕ). behind_byte (byte_of o (hex_value d)) (key_of ds)) (digit_none c e)
+pair_none true false r c d ds e f n h =
+    ap (λ (o : Option ℕ). behind_byte (byte_of (hex_value c) o) (key_of ds)) (digit_none d f)
+    ∙ ap (λ (o : Option ℕ). behind_byte o (key_of ds)) (byte_none (hex_value c))
+pair_none true true r c d ds e f n h = ap (behind_byte (hex_byte c d)) (n h) ∙ behind_none (hex_byte c d)
+
+pub key_none : (ds : List ℕ) → list_all is_ascii_hexdigit ds ≡ false → key_of ds ≡ None
+key_none [] h = cc
+key_none (c ∷ []) h = refl
+key_none (c ∷ d ∷ ds) h = pair_none (is_ascii_hexdigit c) (is_ascii_hexdigit d) (list_all is_ascii_hexdigit ds) c d ds refl refl (key_none ds) h
 
 pub key_is : (ds : List ℕ) → result_ok (decode_of ds) ≡ key_of ds
 key_is ds =

@@ -1,5 +1,7 @@
 // A line: a key in hexadecimal, a tab, and a value in decimal.
 ghost use Rattle.std.specs.Prelude.{◌≡◌, IfOk, vec_items};
+ghost use Rattle.std.specs.Char.{is_ascii_hexdigit};
+ghost use Rattle.std.specs.List.{list_all};
 ghost use Rattle.std.specs.Option.{option_map};
 ghost use Rattle.building.specs.Lines.{halves, key_of, value_of, parsed};
 ghost use Rattle.building.specs.Parts.{entry_of, parts_of};
@@ -21,13 +23,21 @@ pub(crate) fn split_once(bytes: &[u8], wanted: u8) -> Option<(&[u8], &[u8])>
     Some((&bytes[..at], &bytes[at + 1..]))
 }
 
+// Whether all are digits.
+fn is_hex(digits: &[u8]) -> bool
+    ensures { result ≡ list_all is_ascii_hexdigit digits.now }
+{
+    digits.iter().all(|digit| digit.is_ascii_hexdigit())
+}
+
 fn parse_key(heap: Global, digits: &[u8]) -> Result<Option<Vec<u8>>, AllocError>
     ensures { IfOk result (λ o. option_map vec_items o ≡ key_of digits.now) }
 {
     match hex::decode(heap, digits) {
         Ok(key) => Ok(Some(key)),
         Err(fault) => match fault {
-            FromHexError::OutOfMemory => Err(AllocError),
+            // the memory is taken before a digit is looked at; what is no key wants none
+            FromHexError::OutOfMemory if is_hex(digits) => Err(AllocError),
             _ => Ok(None),
         },
     }
