@@ -106,6 +106,7 @@ impl<C: Codec> OpenBlock<C> {
     pub(crate) fn len(&self) -> usize
         ensures value { result ≡ length (rest_of C.Codec.bytes self.now) - 5 }
         ensures within { result ≤ 30000 }
+        ensures values { result ≤ 20030 + length self.now.delta }
     {
         if self.delta.is_empty() {
             0

@@ -167,6 +167,7 @@ impl<C: Codec> OpenTable<C> {
     pub(crate) fn room(&self) -> usize
         ensures low { length (ending C.Codec.bytes self.now) ≤ result }
         ensures high { result ≤ length (ending C.Codec.bytes self.now) + 16 }
+        ensures within { result ≤ 24039 }
     {
         HEAD_LEN + WORD_LEN + self.block.len()
     }

@@ -14,4 +14,4 @@ pub returns-in-WaitsForKey : goal.returns-in-WaitsForKey
 returns-in-WaitsForKey g c =
     let s = c.args.self.now in
     let state : Room g.C.Codec.bytes s c.room.result = rw (← c.self.view_is) (in_room c.self.inside.phase _ _ c.in-WaitsForKey.is c.room.ensures.low c.room.ensures.high) in
-    record { state = state; entries = room_of (meaning g.C.Codec) s _ state }
+    record { state = state; entries = room_of (meaning g.C.Codec) s _ state; within = c.room.ensures.within }
