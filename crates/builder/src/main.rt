@@ -9,6 +9,7 @@ use std::io::{Read, Write};
 fn main(rt: HostRuntime) -> anyhow::Result<()> {
     let mut text = Vec::new(rt.alloc());
     rt.stdin().read_to_end(&mut text)?;
+    // taken here: a want of memory for it ends the program, and is no refusal of the text
     let mut output = vec![in rt.alloc(); 0; OUTPUT_LEN]?;
     match build(rt.alloc(), &text, &mut output) {
         Ok(len) => rt.stdout().write_all(&output[..len])?,

@@ -10,7 +10,8 @@ use std::io::{Read, Write};
 // One byte more tells that there are more.
 const READ_LIMIT: usize = MOST_BYTES + 1;
 
-// Reads until the input ends or the buffer is full, and answers how many bytes came.
+// Reads until the input ends or the buffer is full, and answers how many bytes came. By hand: the library's `read_to_end` behind
+// a `take` promises no bound, and goes on after an interrupted read.
 fn fill(input: &mut io::Stdin, buffer: &mut [u8]) -> io::Result<usize>
     ensures { IfOk result (λ n. n ≤ length buffer.old) }
 {

@@ -26,6 +26,7 @@ fn area_of(heap: Global, digits: &str, len: usize) -> Result<Vec<u8>, AllocError
     for [high, low] in pairs {
         area.push(nibble(*high) * 16 + nibble(*low))?;
     }
+    // one by one, so that memory is asked for as it is needed: a length may be any number
     for _ in area.len()..len {
         area.push(0)?;
     }
@@ -33,6 +34,7 @@ fn area_of(heap: Global, digits: &str, len: usize) -> Result<Vec<u8>, AllocError
 }
 
 fn run_case(rt: &HostRuntime, line: &str) -> io::Result<()> {
+    // every line is a case: `split_once`, `parse` and `?` would refuse some
     let mut words = line.split(' ');
     let name = words.next().unwrap_or("");
     let len = words.next().unwrap_or("").parse::<usize>().unwrap_or(0);
